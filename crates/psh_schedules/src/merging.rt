@@ -1,18 +1,17 @@
 //! The putting together of the files of shards.
-ghost use Rattle.std.specs.Prelude.{◌≡◌, ◌+◌, ◌<◌, ◌^◌, ◌&&◌, [], IfOk, OnOk, Ok, map};
+ghost use Rattle.std.specs.Prelude.{◌≡◌, ◌+◌, ◌-◌, ◌^◌, ◌&&◌, [], IfOk, OnOk, Ok, map, min};
 ghost use Rattle.std.specs.List.{list_all, sum_by};
 ghost use Rattle.sh_files.specs.Image.{read_image};
 ghost use Rattle.sh_files.specs.Nodes.{FileMap};
-ghost use Rattle.sh_exec.specs.State.{start};
+ghost use Rattle.sh_schedules.specs.State.{start};
 ghost use Rattle.sh_schedules.specs.Merging.{AreJoined, AreJoinedInTurn};
-ghost use Rattle.sh_schedules_outcomes.specs.Shell.{outcome_of, shell};
+ghost use Rattle.sh_schedules.specs.Shell.{outcome_of, shell};
 
 use crate::shard_file::{ShardFault, ShardFile, read_shard};
 use crate::{PROGRAM, refuse};
 use psh_common::{lack, read};
-use sh_schedules::{Exploration, join_kept};
+use sh_schedules::{Exploration, Settings, join_kept};
 use sh_stock::Stock;
-use sh_world::Settings;
 use std::str;
 
 /// A file of a shard, with its name.
@@ -165,8 +164,7 @@ fn add_file<S: Stock>(
 ) -> Result<(), u8>
     ensures joined { (nodes : FileMap) → read_image image.now ≡ Ok nodes → OnOk result
         (AreJoined (shell S.meaning) outcome_of (start nodes settings.now) file.now.kept.items all.old.found.items all.new.found.items) }
-    ensures tried { OnOk result (all.old.schedules + file.now.schedules < 2 ^ 64
-        → all.new.schedules ≡ all.old.schedules + file.now.schedules) }
+    ensures tried { OnOk result (all.new.schedules ≡ min (all.old.schedules + file.now.schedules) (2 ^ 64 - 1)) }
     ensures complete { OnOk result (all.new.is_complete ≡ (all.old.is_complete && file.now.is_complete)) }
 {
     let kept = file.kept.as_slice();
@@ -190,8 +188,7 @@ pub fn joined<S: Stock>(
 ) -> Result<Exploration, u8>
     ensures joined { (nodes : FileMap) → read_image image.now ≡ Ok nodes → IfOk result (λ all.
         AreJoinedInTurn (shell S.meaning) outcome_of (start nodes settings.now) (map (λ named. named.file.kept.items) files.now) [] all.found.items) }
-    ensures tried { IfOk result (λ all. sum_by (λ named. named.file.schedules) files.now < 2 ^ 64
-        → all.schedules ≡ sum_by (λ named. named.file.schedules) files.now) }
+    ensures tried { IfOk result (λ all. all.schedules ≡ min (sum_by (λ named. named.file.schedules) files.now) (2 ^ 64 - 1)) }
     ensures complete { IfOk result (λ all. all.is_complete ≡ list_all (λ named. named.file.is_complete) files.now) }
 {
     let mut all = Exploration {

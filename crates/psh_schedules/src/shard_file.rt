@@ -5,8 +5,7 @@ use crate::telling::{events_text, put_number};
 use psh_common::{EventFault, read_events};
 use sh_base::NoMemory;
 use sh_base::decimal::{all_digits, limited_value};
-use sh_schedules::{Exploration, Found, Kept, Shard};
-use sh_world::Event;
+use sh_schedules::{Event, Exploration, Found, Kept, Shard};
 use std::alloc::{AllocError, AllocFailed, Global};
 
 /// What the file of a shard holds.

@@ -3,8 +3,7 @@ use itoa::Buffer;
 use psh_common::put_process;
 use sh_base::NoMemory;
 use sh_kernel_processes::{FIRST_PID, Status};
-use sh_schedules::{Ending, Exploration, Found, Outcome, Parting, Waiter};
-use sh_world::{Event, TurnAction};
+use sh_schedules::{Ending, Event, Exploration, Found, Outcome, Parting, TurnAction, Waiter};
 use std::alloc::Global;
 
 /// Adds a number.

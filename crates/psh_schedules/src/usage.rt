@@ -1,6 +1,5 @@
 //! What a command line may ask for.
-use sh_schedules::Bounds;
-use sh_world::Settings;
+use sh_schedules::{Bounds, Settings};
 
 /// A command line that is in order.
 #[derive(Drop)]

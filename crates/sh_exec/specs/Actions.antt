@@ -10,9 +10,9 @@ use Rattle.sh_exec_actions.specs.declared.action.Active.{Active}
 use Rattle.sh_exec_actions.specs.declared.action.Active.TheVariants.{Acting, Calling, Evaluating, Next, Done, Leaving}
 use Rattle.sh_exec_actions.specs.declared.action.Action.{Action}
 use Rattle.sh_exec_actions.specs.declared.action.Action.TheVariants.{Reading, Prompting, ReadInput, Expanding, ReadSubstitution, WaitSubstitution, ReadLine, Awaiting, SendSignal, ContinueJob, WaitForJob, Redirecting, Forking, Starting, ForkStage, ForkList, AssignLoopVariable, Defining, Waiting, Writing, Trapping, Ending}
-use Rattle.sh_exec_entering.specs.Running.{active_of}
-use Rattle.sh_exec_requests.specs.Signals.{pending_signal}
-use Rattle.sh_exec_turns.specs.Traps.{is_called}
+use Rattle.sh_exec_shell.specs.Running.{active_of}
+use Rattle.sh_exec_shell.specs.Signals.{pending_signal}
+use Rattle.sh_exec_shell.specs.Traps.{is_called}
 use Rattle.sh_kernel.specs.State.{KernelState}
 use Rattle.sh_kernel.specs.declared.watch.Cause.{Cause}
 use Rattle.sh_kernel.specs.declared.watch.Cause.TheVariants as cause

@@ -9,3 +9,4 @@ pub mod State
 pub mod Tasks
 pub mod TurnActions
 pub mod Turns
+pub use Rattle.sh_exec_shell.specs.Codes

@@ -14,9 +14,9 @@ use Rattle.sh_exec_actions.specs.Beginnings.{not_begun}
 use Rattle.sh_exec_actions.specs.declared.action.Action.TheVariants.{Prompting, Reading}
 use Rattle.sh_builtin_shell.specs.Shells.{is_interactive}
 use Rattle.sh_builtin_shell.specs.declared.shell.Shell.{Shell}
-use Rattle.sh_exec_requests.specs.Signals.{after_start_of}
-use Rattle.sh_exec_entering.specs.Stacks as shell
-use Rattle.sh_exec_entering.specs.Running.{At}
+use Rattle.sh_exec_shell.specs.Signals.{after_start_of}
+use Rattle.sh_exec_shell.specs.Stacks as shell
+use Rattle.sh_exec_shell.specs.Running.{At}
 use Rattle.sh_exec_actions.specs.declared.form.Frame.{Frame}
 use Rattle.sh_files.specs.Nodes.{FileMap}
 use Rattle.sh_jobs.specs.declared.job.Job.{Job}

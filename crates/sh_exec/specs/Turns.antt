@@ -10,7 +10,7 @@ use Rattle.sh_exec_actions.specs.declared.action.ProgramStart.{ProgramStart}
 use Rattle.sh_exec.specs.declared.task.Task.TheVariants.{Runs, Asks}
 use Rattle.sh_exec_shell.specs.Forks as shell
 use Rattle.sh_exec_shell.specs.Reduction.{shell_turn}
-use Rattle.sh_exec_entering.specs.Running.{InterpreterState, active_of, with_active}
+use Rattle.sh_exec_shell.specs.Running.{InterpreterState, active_of, with_active}
 use Rattle.sh_kernel.specs.State.{KernelKept, KernelState, StandsAt}
 use Rattle.sh_stock.specs.Asking.{Meaning}
 

@@ -7,8 +7,7 @@ ghost use Rattle.sh_exec.specs.Actions.{action_at, action_in, action_for, awaiti
 use sh_builtin_shell::Shell;
 use sh_builtin_wait::Awaited;
 use sh_exec_actions::{Action, Active, PipelineWait};
-use sh_exec_requests::pending_signal;
-use sh_exec_turns::is_called;
+use sh_exec_shell::{is_called, pending_signal};
 use sh_kernel::{Cause, DescriptorRef, Kernel, Next};
 use sh_signal::Signal;
 use sh_stock::Ask;

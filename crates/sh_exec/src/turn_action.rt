@@ -6,7 +6,7 @@ ghost use Rattle.sh_exec.specs.TurnActions.{drops_in, takes_trap_in, turn_action
 use sh_base::sequence::Text;
 use sh_builtin_shell::Shell;
 use sh_exec_actions::{Action, Active, ToExpand};
-use sh_exec_turns::{drops_before, is_interrupted};
+use sh_exec_shell::{drops_before, is_interrupted};
 use sh_kernel::Kernel;
 use sh_stock::Ask;
 

@@ -8,3 +8,4 @@ mod loops;
 
 pub use forms::settle;
 pub use input::goes_on_reading;
+pub use sh_exec_frames::Frames;

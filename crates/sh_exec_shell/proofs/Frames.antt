@@ -3,12 +3,12 @@ use Rattle.std.proofs.Common.{◌≡◌, ◌<◌, ◌≤◌, arith, length, List
 use Rattle.std.proofs.lemmas.List.{length-reverse}
 use Rattle.sh_builtin_shell.specs.declared.shell.Shell.{Shell}
 use Rattle.sh_exec_actions.specs.declared.action.Active.{Active}
-use Rattle.sh_exec_forms.specs.Forms.{Acted, IsActed, at_action, outward}
+use Rattle.sh_exec_turns.specs.Forms.{Acted, IsActed, at_action, outward}
 use Rattle.sh_exec_entering.specs.Stacks.{forms_round, path_of, run_in, run_of}
 use Rattle.sh_exec_frames.specs.Frames.{framed, is_failure_ignored}
 use Rattle.sh_exec_entering.specs.Running.{InterpreterState, Run, At, In, active_of, with_active}
 use Rattle.sh_exec_actions.specs.declared.form.Form.{Form}
-use Rattle.sh_exec_forms.proofs.Outward.{by_forms}
+use Rattle.sh_exec_turns.proofs.Outward.{by_forms}
 use Rattle.sh_exec_shell.specs.Forks.{IsTurned, Turned, inherited}
 use Rattle.sh_exec_shell.specs.Reduction.{act_at, at_root, drop_first, reduce, shell_turn, turn_from, with_root}
 use Rattle.sh_kernel.specs.State.{KernelKept, KernelState, StandsAt}

@@ -21,7 +21,7 @@ use Rattle.sh_exec_actions.specs.declared.action.Substitution.{Substitution}
 use Rattle.sh_exec_actions.specs.declared.action.ToExpand.{ToExpand}
 use Rattle.sh_exec_actions.specs.declared.action.ToExpand.TheVariants.{Words, Values, Redirects, ForWords, CaseWord, CasePattern}
 use Rattle.sh_exec_machine.specs.Forking.{Laid, fork_of, null_laid}
-use Rattle.sh_exec_forms.specs.Forms.{Acted, with_run}
+use Rattle.sh_exec_turns.specs.Forms.{Acted, with_run}
 use Rattle.sh_exec_turns.specs.Acting.{in_forms}
 use Rattle.sh_exec_turns.specs.Groups.{behind_fork, released_fork}
 use Rattle.sh_exec_actions.specs.declared.form.Form.{Form}

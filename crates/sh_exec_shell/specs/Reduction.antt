@@ -22,7 +22,7 @@ use Rattle.sh_exec_requests.specs.Waiting.{answer_turn, wait_turn}
 use Rattle.sh_exec_turns.specs.Input.{input_turn}
 use Rattle.sh_exec_turns.specs.Traps.{drops_before, interruption, trap_before}
 use Rattle.sh_exec_shell.specs.Forks.{Turned, fork_turn, inheriting, list_turn, stage_turn, substitute_turn}
-use Rattle.sh_exec_forms.specs.Forms.{Acted, with_run, after, at_action, goes_on_reading}
+use Rattle.sh_exec_turns.specs.Forms.{Acted, with_run, after, at_action, goes_on_reading}
 use Rattle.sh_exec_entering.specs.Moves.{move_run}
 use Rattle.sh_exec_frames.specs.Frames.{ends_shell, is_failure_ignored}
 use Rattle.sh_exec_actions.specs.declared.form.Form.{Form}

@@ -2,7 +2,7 @@
 ghost use Rattle.std.specs.Prelude.{◌≡◌, [], IfOk};
 ghost use Rattle.sh_kernel.specs.State.{KernelState, StandsAt};
 ghost use Rattle.sh_tty.specs.Terminal.{Extends};
-ghost use Rattle.sh_exec_forms.specs.Forms.{IsActed};
+ghost use Rattle.sh_exec_turns.specs.Forms.{IsActed};
 ghost use Rattle.sh_exec_command.specs.Series.{give_turn};
 ghost use Rattle.sh_exec_turns.specs.Acting.{defined, expand_turn, given_round, in_forms, round_run};
 ghost use Rattle.sh_exec_shell.specs.Forks.{IsTurned, inheriting, inside};
@@ -23,15 +23,14 @@ use sh_exec_command::{
     series_turn, words_turn,
 };
 use sh_exec_entering::{enter_list, go_to};
-use sh_exec_forms::{goes_on_reading, settle};
 use sh_exec_frames::Frames;
 use sh_exec_requests::{
     answer_turn, await_turn, continue_turn, job_wait_turn, prompt_turn, read_line_turn,
     signal_turn, wait_turn,
 };
 use sh_exec_turns::{
-    collect_turn, end_turn, input_turn, interrupt, read, redirect_turn, trap, trap_before,
-    write_turn,
+    collect_turn, end_turn, goes_on_reading, input_turn, interrupt, read, redirect_turn, settle,
+    trap, trap_before, write_turn,
 };
 use sh_files::Files;
 use sh_kernel::Kernel;

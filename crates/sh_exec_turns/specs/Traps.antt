@@ -13,7 +13,7 @@ use Rattle.sh_exec_command.specs.Expanding.{fatal}
 use Rattle.sh_exec_command.specs.Reading.{next_command}
 use Rattle.sh_exec_forms.specs.Forms.{Acted, behind_status, with_run}
 use Rattle.sh_exec_entering.specs.Running.{At, In}
-use Rattle.sh_exec_frames.specs.Frames.{levels_left}
+use Rattle.sh_exec_forms.specs.Frames.{levels_left}
 use Rattle.sh_exec_requests.specs.Signals.{is_dropping, is_interrupt_next, pending_action}
 use Rattle.sh_exec_parts.specs.Messages.{refusal_text}
 use Rattle.sh_exec_parts.specs.Simple.{compound_redirects}

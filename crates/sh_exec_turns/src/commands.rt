@@ -19,7 +19,7 @@ use sh_builtin_shell::Shell;
 use sh_exec_actions::{Action, Active, Beginning, CommandStatus, Form};
 use sh_exec_command::{InputFound, find_input};
 use sh_exec_entering::enter;
-use sh_exec_frames::Frames;
+use sh_exec_forms::Frames;
 use sh_exec_machine::{ReadOutcome, take_bytes};
 use sh_exec_parts::Queue;
 use sh_exec_parts::message::Refusal;

@@ -16,4 +16,5 @@ pub use input::collect_turn;
 pub use output::{end_turn, write_turn};
 pub use reading::read;
 pub use redirecting::redirect_turn;
+pub use sh_exec_forms::{goes_on_reading, settle};
 pub use traps::{drops_before, interrupt, is_called, is_interrupted, trap, trap_before};

@@ -9,7 +9,7 @@ use sh_base::NoMemory;
 use sh_builtin_shell::Shell;
 use sh_exec_actions::{Active, ExpandedCommand, Role, go_ahead, not_done};
 use sh_exec_entering::go_to;
-use sh_exec_frames::Frames;
+use sh_exec_forms::Frames;
 use sh_exec_machine::{Redirected, Undone, redirect};
 use sh_exec_parts::redirection::Redirection;
 use sh_kernel::{Kernel, KernelFault};

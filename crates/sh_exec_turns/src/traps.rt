@@ -19,7 +19,7 @@ use sh_builtin_environment::copy_of_action;
 use sh_builtin_shell::Shell;
 use sh_exec_actions::{Action, Active, Form, Pending, Suspended, ToExpand};
 use sh_exec_command::fatal_message;
-use sh_exec_frames::Frames;
+use sh_exec_forms::Frames;
 use sh_exec_parts::Rest;
 use sh_exec_parts::compound::compound_redirects;
 use sh_exec_parts::message::{Refusal, refused};

@@ -12,6 +12,7 @@ use Rattle.sh_schedules_outcomes.specs.declared.found.Found.{Found}
 use Rattle.sh_schedules_outcomes.specs.declared.outcome.Outcome.{Outcome}
 use Rattle.sh_schedules_outcomes.proofs.Orders.{complete}
 use Rattle.sh_schedules_outcomes.proofs.Preferring.{same_costs}
+use Rattle.sh_schedules.proofs.Keeping.{same_parts}
 
 one_number : {A : Type 0} (w : Machine A) (outcome : A → Outcome) (s : A) (seen : Outcome) (all : List (List Event)) (a b : ℕ) →
     IsNumber w outcome s seen all a → IsNumber w outcome s seen all b → a ≡ b
@@ -69,10 +70,6 @@ by_places w s (Run place ∷ es) turns = ap (λ (xs : List Event). Run place ∷
 by_places w s (Next ∷ es) turns = absurd turns.0
 by_places w s (Key byte ∷ es) turns = absurd turns.0
 
-one_as : (o p : Outcome) (m n i j : ℕ) (es fs : List Event) → o ≡ p → m ≡ n → i ≡ j → es ≡ fs →
-    ◌≡◌ {A = Found} (record { outcome = o; schedules = m; preemptions = i; events = es }) (record { outcome = p; schedules = n; preemptions = j; events = fs })
-one_as o p m n i j es fs a b c d = cc
-
 pub same_found : {A : Type 0} (w : Machine A) (outcome : A → Outcome) (k n : ℕ) (s : A) (found new : List Found) (tried more : ℕ) (f g : Found) →
     IsExploration w outcome k n s found tried true → IsExploration w outcome k n s new more true → In found f → In new g → f.outcome ≡ g.outcome → f ≡ g
 same_found w outcome k n s found new tried more f g first second here there same =
@@ -80,8 +77,8 @@ same_found w outcome k n s found new tried more f g first second here there same
     let two = is_found w outcome k n s (schedules w k n s) new g (all_found w outcome k n s new more second) there in
     let both =
     same_costs f.preemptions g.preemptions f.events g.events (not_before w outcome k n s g f two one (sym same)) (not_before w outcome k n s f g one two same) in
-    one_as f.outcome g.outcome f.schedules g.schedules f.preemptions g.preemptions f.events g.events same
+    same_parts f.outcome g.outcome f.schedules g.schedules f.preemptions g.preemptions f.events g.events same
     (one_number w outcome s g.outcome (schedules w k n s) f.schedules g.schedules
     (subst (λ (o : Outcome). IsNumber w outcome s o (schedules w k n s) f.schedules) same one.number) two.number)
     both.0
-    (sym (by_places w s f.events one.schedule.turns) ∙ ap (map Run) both.1 ∙ by_places w s g.events two.schedule.turns)
+    (sym (by_places w s f.events one.schedule.any.turns) ∙ ap (map Run) both.1 ∙ by_places w s g.events two.schedule.any.turns)

@@ -41,7 +41,7 @@ turns_next w outcome s kept_of files i file old between new within is h more =
     subst (λ (all : List (List Kept)). AreJoinedInTurn w outcome s all old new) (sym longer) (turns_more w outcome s (map kept_of (take i files)) (kept_of file) old between new h more)
 
 -- ---- what is run again is what was found
-same_parts : (o p : Outcome) (m n i j : ℕ) (es fs : List Event) → o ≡ p → m ≡ n → i ≡ j → es ≡ fs →
+pub same_parts : (o p : Outcome) (m n i j : ℕ) (es fs : List Event) → o ≡ p → m ≡ n → i ≡ j → es ≡ fs →
     ◌≡◌ {A = Found} (record { outcome = o; schedules = m; preemptions = i; events = es }) (record { outcome = p; schedules = n; preemptions = j; events = fs })
 same_parts o p m n i j es fs a b c d = cc
 

@@ -12,7 +12,7 @@ use Rattle.sh_schedules_outcomes.specs.Found.{AreDistinct, AreFound, IsFound, Sh
 use Rattle.sh_schedules.specs.Trying.{IsExploration}
 use Rattle.sh_schedules_outcomes.specs.declared.found.Found.{Found}
 use Rattle.sh_schedules_outcomes.specs.declared.outcome.Outcome.{Outcome}
-use Rattle.sh_schedules_outcomes.proofs.Preferring.{none_before_itself, nor_behind, one_way, same_costs}
+use Rattle.sh_schedules_outcomes.proofs.Preferring.{none_before_itself, nor_behind, not_true, one_way, same_costs}
 use Rattle.sh_schedules.proofs.Agreeing.{all_found, by_places, same_found, same_outcomes}
 
 -- ---- what a list has
@@ -114,10 +114,6 @@ tied true b is = cc
 tied false true is = cc
 tied false false is = (refl, refl)
 
-not_tied : (b : Bool) → (b ≡ true → ⊥) → b ≡ false
-not_tied true never = absurd (never refl)
-not_tied false never = refl
-
 tied_either : (a b : Bool) → (not a && not b) ≡ (not b && not a)
 tied_either true true = refl
 tied_either true false = refl
@@ -130,14 +126,14 @@ one_outcome : {A : Type 0} (w : Machine A) (outcome : A → Outcome) (k n : ℕ)
 one_outcome w outcome k n s done f g one two is =
     let neither = tied (is_before f g) (is_before g f) is in
     let both = same_costs f.preemptions g.preemptions f.events g.events neither.0 neither.1 in
-    let same = sym (by_places w s f.events one.schedule.turns) ∙ ap (λ (ps : List ℕ). map Run ps) both.1 ∙ by_places w s g.events two.schedule.turns in
+    let same = sym (by_places w s f.events one.schedule.any.turns) ∙ ap (λ (ps : List ℕ). map Run ps) both.1 ∙ by_places w s g.events two.schedule.any.turns in
     two.outcome_is ∙ sym (ap (λ (es : List Event). outcome (end_of w s es)) same) ∙ sym one.outcome_is
 
 apart_from : {A : Type 0} (w : Machine A) (outcome : A → Outcome) (k n : ℕ) (s : A) (done : List (List Event)) (f : Found) (gs : List Found) → IsFound w outcome k n s done f →
     AreFound w outcome k n s done gs → (Shows gs f.outcome → ⊥) → AllByRecursion (λ g. ties is_before f g ≡ false) gs
 apart_from w outcome k n s done f [] is each absent = tt
 apart_from w outcome k n s done f (g ∷ gs) is each absent = (
-  not_tied (ties is_before f g) (λ same. absent (inl (one_outcome w outcome k n s done f g is each.0 same))),
+  not_true (ties is_before f g) (λ same. absent (inl (one_outcome w outcome k n s done f g is each.0 same))),
   apart_from w outcome k n s done f gs is each.1 (λ there. absent (inr there)),
 )
 

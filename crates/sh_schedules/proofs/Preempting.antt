@@ -29,4 +29,4 @@ pub is_within : {A : Type 0} (w : Machine A) (k n : ℕ) (s : A) (events : List 
 is_within w k n s events enough is =
     let few = no_more_than_turns w s events in
     let short = is.within in
-    record { turns = is.turns; preempted = omega (arith, few, short, enough); within = is.within; ends = is.ends }
+    record { any = is; preempted = omega (arith, few, short, enough) }

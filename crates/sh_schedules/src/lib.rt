@@ -23,4 +23,5 @@ pub use laws::{
 pub use parting::{Parting, find_parting};
 pub use retracing::retrace;
 pub use sh_schedules_outcomes::{Ending, ExploreFault, Found, Outcome, Waiter, join, sort};
+pub use sh_world::{Event, Settings, TurnAction};
 pub use shard::Shard;

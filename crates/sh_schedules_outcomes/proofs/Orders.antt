@@ -174,19 +174,21 @@ one_more : {A : Type 0} (w : Machine A) (k n : ℕ) (s : A) (p : ℕ) (es : List
     IsSchedule w (k - cost w s (Run p)) n (w.step s (Run p)) es → IsSchedule w k (suc n) s (Run p ∷ es)
 one_more w k n s p es can fits rest =
     let few = rest.preempted in
-    let short = rest.within in
+    let short = rest.any.within in
     record {
-      turns = (can, rest.turns);
+      any = record {
+        turns = (can, rest.any.turns);
+        within = omega arith;
+        ends = elim rest.any.ends [ inl none ↦ inl none | inr full ↦ inr (ap suc full) ];
+      };
       preempted = omega arith;
-      within = omega arith;
-      ends = elim rest.ends [ inl none ↦ inl none | inr full ↦ inr (ap suc full) ];
     }
 
 sound_by : {A : Type 0} (w : Machine A) (k n : ℕ) (s : A) (es : List Event) (f : ℕ → List (List Event)) (places : List ℕ) → choices w k s ≡ places →
     ((p : ℕ) (rest : List Event) → In (f p) rest → IsSchedule w (k - cost w s (Run p)) n (w.step s (Run p)) rest) →
     In (of_choices f places) es → IsSchedule w k (suc n) s es
 sound_by w k n s es f [] is follow (inl e) =
-    subst (IsSchedule w k (suc n) s) e (record { turns = tt; preempted = omega arith; within = omega arith; ends = inl (none_can w k s is) })
+    subst (IsSchedule w k (suc n) s) e (record { any = record { turns = tt; within = omega arith; ends = inl (none_can w k s is) }; preempted = omega arith })
 sound_by w k n s es f [] is follow (inr h) = absurd h
 sound_by w k n s es f (p ∷ ps) is follow h =
     let b = begins f (p ∷ ps) es h in
@@ -196,7 +198,7 @@ sound_by w k n s es f (p ∷ ps) is follow h =
 -- what is in the list is a schedule
 pub sound : {A : Type 0} (w : Machine A) (k n : ℕ) (s : A) (es : List Event) → In (schedules w k n s) es → IsSchedule w k n s es
 unfolding schedules
-sound w k zero s es (inl e) = subst (IsSchedule w k zero s) e (record { turns = tt; preempted = omega arith; within = omega arith; ends = inr refl })
+sound w k zero s es (inl e) = subst (IsSchedule w k zero s) e (record { any = record { turns = tt; within = omega arith; ends = inr refl }; preempted = omega arith })
 sound w k zero s es (inr h) = absurd h
 sound w k (suc n) s es h =
     sound_by w k n s es (λ p. schedules w (k - cost w s (Run p)) n (w.step s (Run p))) (choices w k s) refl
@@ -220,12 +222,14 @@ in_choices f (q ∷ qs) p es h r = in_begun_by f (q ∷ qs) p es h r
 rest_of : {A : Type 0} (w : Machine A) (k n : ℕ) (s : A) (p : ℕ) (es : List Event) → IsSchedule w k (suc n) s (Run p ∷ es) → IsSchedule w (k - cost w s (Run p)) n (w.step s (Run p)) es
 rest_of w k n s p es h =
     let few = h.preempted in
-    let short = h.within in
+    let short = h.any.within in
     record {
-      turns = h.turns.1;
+      any = record {
+        turns = h.any.turns.1;
+        within = omega arith;
+        ends = elim h.any.ends [ inl none ↦ inl none | inr full ↦ inr (omega arith) ];
+      };
       preempted = omega arith;
-      within = omega arith;
-      ends = elim h.ends [ inl none ↦ inl none | inr full ↦ inr (omega arith) ];
     }
 
 ended_in : {A : Type 0} (w : Machine A) (k n : ℕ) (s : A) (f : ℕ → List (List Event)) → (w.runnable s ≡ []) ⊎ (0 ≡ suc n) → In (of_choices f (choices w k s)) []
@@ -236,13 +240,13 @@ ended_in w k n s f (inr full) = absurd (omega arith)
 pub complete : {A : Type 0} (w : Machine A) (k n : ℕ) (s : A) (es : List Event) → IsSchedule w k n s es → In (schedules w k n s) es
 unfolding schedules
 complete w k zero s [] h = inl refl
-complete w k zero s (e ∷ es) h = let short = h.within in absurd (omega arith)
-complete w k (suc n) s [] h = ended_in w k n s (λ p. schedules w (k - cost w s (Run p)) n (w.step s (Run p))) h.ends
+complete w k zero s (e ∷ es) h = let short = h.any.within in absurd (omega arith)
+complete w k (suc n) s [] h = ended_in w k n s (λ p. schedules w (k - cost w s (Run p)) n (w.step s (Run p))) h.any.ends
 complete w k (suc n) s (Run p ∷ es) h =
     let few = h.preempted in
     let fits : cost w s (Run p) ≤ k = omega arith in
     in_choices (λ p. schedules w (k - cost w s (Run p)) n (w.step s (Run p))) (choices w k s) p es
-    (fit_is_choice (last_place w s) (length (w.runnable s)) k p h.turns.0 fits)
+    (fit_is_choice (last_place w s) (length (w.runnable s)) k p h.any.turns.0 fits)
     (complete w (k - cost w s (Run p)) n (w.step s (Run p)) es (rest_of w k n s p es h))
-complete w k (suc n) s (Next ∷ es) h = absurd h.turns.0
-complete w k (suc n) s (Key byte ∷ es) h = absurd h.turns.0
+complete w k (suc n) s (Next ∷ es) h = absurd h.any.turns.0
+complete w k (suc n) s (Key byte ∷ es) h = absurd h.any.turns.0

@@ -7,7 +7,7 @@ use Rattle.sh_exec.specs.declared.event.Event.{Event}
 use Rattle.sh_schedules_outcomes.specs.Preference.{comes_before, first_by, place_in, precedes}
 use Rattle.sh_schedules_outcomes.specs.Found.{is_before}
 
-not_true : (b : Bool) → (b ≡ true → ⊥) → b ≡ false
+pub not_true : (b : Bool) → (b ≡ true → ⊥) → b ≡ false
 not_true true not = absurd (not refl)
 not_true false not = refl
 

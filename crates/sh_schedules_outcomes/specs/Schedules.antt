@@ -47,15 +47,13 @@ abbrev pub AreTurns : {A : Type 0} → Machine A → A → List Event → Type 0
 AreTurns w s [] = Unit {0}
 AreTurns w s (e ∷ es) = IsTurn w s e × AreTurns w (w.step s e) es
 
--- a schedule with at most so many preemptions and so many turns: it ends where no process can take a turn, or after that many turns
-pub record IsSchedule {A : Type 0} (w : Machine A) (most_preemptions most_turns : ℕ) (s : A) (events : List Event) : Type 0 where
-  pub turns : AreTurns w s events
-  pub preempted : preemptions w s events ≤ most_preemptions
-  pub within : length events ≤ most_turns
-  pub ends : (w.runnable (end_of w s events) ≡ []) ⊎ (length events ≡ most_turns)
-
--- a schedule with any number of preemptions
+-- a schedule of at most so many turns, with any number of preemptions: it ends where no process can take a turn, or after that many turns
 pub record IsAnySchedule {A : Type 0} (w : Machine A) (most_turns : ℕ) (s : A) (events : List Event) : Type 0 where
   pub turns : AreTurns w s events
   pub within : length events ≤ most_turns
   pub ends : (w.runnable (end_of w s events) ≡ []) ⊎ (length events ≡ most_turns)
+
+-- one with at most so many preemptions
+pub record IsSchedule {A : Type 0} (w : Machine A) (most_preemptions most_turns : ℕ) (s : A) (events : List Event) : Type 0 where
+  pub any : IsAnySchedule w most_turns s events
+  pub preempted : preemptions w s events ≤ most_preemptions

@@ -51,7 +51,7 @@ impl<S: Stock> Model for World<S> {
     ghost use Rattle.std.specs.Coded.{codes};
     ghost use Rattle.sh_files_image.specs.Codes as paths;
     ghost use Rattle.sh_vars.specs.Codes as variables;
-    ghost use Rattle.sh_exec_entering.specs.Codes.{run_code};
+    ghost use Rattle.sh_exec.specs.Codes.{run_code};
     ghost use Rattle.sh_aliases.specs.contracts.alias.Alias as alias_row;
     ghost use Rattle.sh_syntax.specs.contracts.tree.Command as command_row;
     ghost use Rattle.sh_world.specs.World.{WorldKept};

@@ -1,0 +1,1 @@
+pub use Rattle.sh_exec_forms.proofs.Outward
