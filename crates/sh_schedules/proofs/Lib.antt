@@ -12,3 +12,4 @@ pub mod Resuming
 pub mod Keeping
 pub mod Preempting
 pub mod Ordering
+pub mod Refusals

@@ -1,5 +1,6 @@
 -- Marks of events, and what of a list of schedules is meant.
-use Rattle.std.proofs.Common.{◌≡◌, ℕ, zero, suc, ◌-◌, ◌<◌, inl, inr, Bool, true, false, nat_eq, Option, List, [], ◌∷◌, ◌++◌, length, refl, sym, ap, ◌∙◌, subst, arith, if◌then◌else◌}
+use Rattle.std.proofs.Common.{◌≡◌, ℕ, zero, suc, ◌-◌, ◌<◌, ◌≤◌, inl, inr, Bool, true, false, nat_eq, Option, List, [], ◌∷◌, ◌++◌, length, refl, sym, ap, ◌∙◌, subst, arith, if◌then◌else◌, length-append}
+use Rattle.std.proofs.lemmas.List.{length-map}
 use Rattle.sh_exec.specs.declared.event.Event.{Event}
 use Rattle.sh_exec.specs.declared.event.Event.TheVariants.{Run, Next, Key}
 use Rattle.sh_schedules_outcomes.specs.Schedules.{Machine, cost, end_of, last_place}
@@ -130,3 +131,49 @@ down_those w k (suc n) s mine shard mark here (c ∷ cs) turn others short is ke
     those_append mine (begun c.place new) behind
     ∙ ap (λ xs. xs ++ those mine behind) (those_begun mine c.place new ∙ ap (begun c.place) below ∙ sym (those_begun mine c.place old))
     ∙ sym (those_append mine (begun c.place old) behind)
+
+-- ---- how many are left
+long_begun : (place : ℕ) (all : List (List Event)) → length (begun place all) ≡ length all
+long_begun place all = length-map all (λ es. Run place ∷ es)
+
+fewer_by : (b : Bool) (f : ℕ → List (List Event)) (place : ℕ) (some all : List ℕ) → length (begun_by f some) ≤ length (begun_by f all) →
+    length (begun_by f (with_place b place some)) ≤ length (begun_by f (place ∷ all))
+fewer_by true f place some all few =
+    let one = length-append (begun place (f place)) (begun_by f some) in
+    let two = length-append (begun place (f place)) (begun_by f all) in
+    omega arith
+fewer_by false f place some all few =
+    let two = length-append (begun place (f place)) (begun_by f all) in
+    omega arith
+
+fewer_reached : (f : ℕ → List (List Event)) (shard : Shard) (mark : Mark) (here : Option ℕ) (places : List ℕ) →
+    length (begun_by f (reaching shard mark here places)) ≤ length (begun_by f places)
+fewer_reached f shard mark here [] = omega arith
+fewer_reached f shard mark here (p ∷ ps) =
+    fewer_by (may_reach shard (next_mark mark (is_first_by here p) p)) f p (reaching shard mark here ps) ps (fewer_reached f shard mark here ps)
+
+-- a turn at the first of the choices, with some of the others, leaves no more of all schedules to be tried
+pub down_fewer : {A : Type 0} (w : Machine A) (k n : ℕ) (s : A) (shard : Shard) (mark : Mark) (here : Option ℕ) (path : List Turn) (turn : Turn) (others : List ℕ) →
+    length path < n → choices w (spare w k s (events_of path)) (end_of w s (events_of path)) ≡ turn.place ∷ others → turn.others.items ≡ reaching shard mark here others →
+    length (to_try w k n s (path ++ turn ∷ [])) ≤ length (to_try w k n s path)
+unfolding to_try schedules
+down_fewer w k zero s shard mark here path turn others short is kept = absurd (omega arith)
+down_fewer w k (suc n) s shard mark here [] turn others short is kept =
+    let f : ℕ → List (List Event) = λ place. schedules w (k - cost w s (Run place)) n (w.step s (Run place)) in
+    let first = begun turn.place (f turn.place) in
+    let new_is = ap (λ ps. length (first ++ begun_by f ps)) kept in
+    let old_is = ap (λ ps. length (of_choices f ps)) is in
+    let one = length-append first (begun_by f (reaching shard mark here others)) in
+    let two = length-append first (begun_by f others) in
+    let fewer = fewer_reached f shard mark here others in
+    omega (arith, new_is, old_is, one, two, fewer)
+down_fewer w k (suc n) s shard mark here (c ∷ cs) turn others short is kept =
+    let below = down_fewer w (k - cost w s (event_of c)) n (w.step s (event_of c)) shard mark here cs turn others (omega arith) is kept in
+    let back = through w k n s c.others.items in
+    let old = to_try w (k - cost w s (event_of c)) n (w.step s (event_of c)) cs in
+    let new = to_try w (k - cost w s (event_of c)) n (w.step s (event_of c)) (cs ++ turn ∷ []) in
+    let one = length-append (begun c.place new) back in
+    let two = length-append (begun c.place old) back in
+    let three = long_begun c.place new in
+    let four = long_begun c.place old in
+    omega (arith, below, one, two, three, four)

@@ -12,7 +12,7 @@ use Rattle.sh_schedules_outcomes.specs.Choices.{In, choices, schedules}
 use Rattle.sh_schedules.specs.Paths.{IsAdvance, behind, event_of, events_of, spare, to_try}
 use Rattle.sh_schedules.specs.Paths.IsAdvance.{gives_way, none_left}
 use Rattle.sh_schedules_outcomes.specs.Found.{AreFound, IsTally, Noted}
-use Rattle.sh_schedules.specs.Trying.{HasEnded, HasGone, HasTaken, IsAfter, IsExploration, IsShardExploration, IsTried, IsTrying, left_of}
+use Rattle.sh_schedules.specs.Trying.{AreFewer, HasEnded, HasGone, HasTaken, IsAfter, IsAsMuch, IsExploration, IsShardExploration, IsTried, IsTrying, left_of}
 use Rattle.sh_schedules.specs.Trying.HasGone.{went_nowhere, went_on}
 use Rattle.sh_schedules_outcomes.specs.declared.found.Found.{Found}
 use Rattle.sh_schedules_outcomes.specs.declared.outcome.Outcome.{Outcome}
@@ -23,7 +23,7 @@ use Rattle.sh_schedules.specs.declared.shard.Shard.{Shard}
 use Rattle.sh_schedules.specs.declared.turns.Standing.{Standing}
 use Rattle.sh_schedules_outcomes.proofs.Orders.{complete, in_right, sound}
 use Rattle.sh_schedules.proofs.Stack.{end_of-push, events_of-push, leaf, nothing_behind, over, spare-push, spare_spent}
-use Rattle.sh_schedules.proofs.Shards.{among_those, down_those, marked_append, out_of_reach, those_among}
+use Rattle.sh_schedules.proofs.Shards.{among_those, down_fewer, down_those, marked_append, out_of_reach, those_among}
 use Rattle.sh_schedules_outcomes.proofs.Tally.{is_shown, tally_more}
 
 pub is_after : {A : Type 0} (w : Machine A) (s : A) (place : ℕ) (here : Option ℕ) (before new : Standing) → here ≡ last_place w s → new.left ≡ before.left - cost_by here place →
@@ -79,7 +79,10 @@ gone_on w k n s shard path new_path turn places others old new before after shor
     let choices_are = subst (λ (x : ℕ). choices w x here ≡ turn.place ∷ others) h.left_is (sym are ∙ first) in
     subst (λ (p : List Turn). HasGone new w k n s shard path p after true) (sym is)
     (went_on (taken_push w k s path turn old new before after h stands after_is)
-    (down_those w k n s (is_of_shard w shard s) shard before.mark (last_place w here) path turn others short choices_are kept (left_out w shard s path before.mark h.mark_is)))
+    (record {
+      of_shard = down_those w k n s (is_of_shard w shard s) shard before.mark (last_place w here) path turn others short choices_are kept (left_out w shard s path before.mark h.mark_is);
+      of_all = down_fewer w k n s shard before.mark (last_place w here) path turn others short choices_are kept;
+    }))
 
 -- no choice
 pub gone_nowhere : {S : Type 0} (w : Machine (State S)) (k n : ℕ) (s : State S) (shard : Shard) (path : List Turn) (places : List ℕ) (world : WorldKept S) (standing : Standing) →
@@ -89,25 +92,27 @@ gone_nowhere w k n s shard path places world standing h are none =
 
 -- the path goes on no further
 pub ended_here : {S : Type 0} (w : Machine (State S)) (k n : ℕ) (s : State S) (shard : Shard) (old mid new : List Turn) (world : WorldKept S) (standing : Standing) (more : Bool) →
-    HasGone world w k n s shard mid new standing more → more ≡ false → left_of w shard k n s mid ≡ left_of w shard k n s old → length mid ≤ n →
+    HasGone world w k n s shard mid new standing more → more ≡ false → IsAsMuch w shard k n s old mid → length mid ≤ n →
     HasEnded world w k n s shard old new standing
 ended_here w k n s shard old mid new world standing true (went_on taken tries) none same short = cc
 ended_here w k n s shard old mid new world standing false (went_nowhere taken is over) none same short =
     let length_is = ap (λ (p : List Turn). length p) is in
-    record { taken = taken; tries = ap (left_of w shard k n s) is ∙ same; short = omega arith; over = over }
+    record { taken = taken; tries = subst (λ (p : List Turn). IsAsMuch w shard k n s old p) (sym is) same; short = omega arith; over = over }
 
 -- there were as many turns as may be
 pub at_most : {S : Type 0} (w : Machine (State S)) (k n : ℕ) (s : State S) (shard : Shard) (old new : List Turn) (world : WorldKept S) (standing : Standing) →
-    HasTaken world w k s new standing → left_of w shard k n s new ≡ left_of w shard k n s old → length new ≤ n → n ≤ length new → HasEnded world w k n s shard old new standing
+    HasTaken world w k s new standing → IsAsMuch w shard k n s old new → length new ≤ n → n ≤ length new → HasEnded world w k n s shard old new standing
 at_most w k n s shard old new world standing taken same short enough = record { taken = taken; tries = same; short = short; over = inr (omega arith) }
 
 -- it goes on
 pub further_on : {S : Type 0} (w : Machine (State S)) (k n : ℕ) (s : State S) (shard : Shard) (old mid new : List Turn) (world : WorldKept S) (standing : Standing) (more : Bool) →
-    HasGone world w k n s shard mid new standing more → more ≡ true → left_of w shard k n s mid ≡ left_of w shard k n s old → length mid < n →
-    (more ≡ true → length new ≡ length mid + 1) → HasTaken world w k s new standing × (left_of w shard k n s new ≡ left_of w shard k n s old) × (length new ≤ n)
+    HasGone world w k n s shard mid new standing more → more ≡ true → IsAsMuch w shard k n s old mid → length mid < n →
+    (more ≡ true → length new ≡ length mid + 1) → HasTaken world w k s new standing × IsAsMuch w shard k n s old new × (length new ≤ n)
 further_on w k n s shard old mid new world standing true (went_on taken tries) on same short longer =
     let length_is = longer refl in
-    (taken, tries ∙ same, omega arith)
+    let fewer = tries.of_all in
+    let few = same.of_all in
+    (taken, record { of_shard = tries.of_shard ∙ same.of_shard; of_all = omega arith }, omega arith)
 further_on w k n s shard old mid new world standing false (went_nowhere taken is over) on same short longer = cc
 
 -- ---- how far the trying has come
@@ -129,7 +134,15 @@ next_is w k n s shard old new world standing done b all ended is =
     let mine = is_of_shard w shard s in
     let told : mine (events_of new) ≡ b = sym (ap (λ (m : Mark). is_dealt shard m.key) ended.taken.mark_is) ∙ is in
     ap (λ (c : Bool). done ++ with_next c (events_of new) (those mine (behind w k n s new))) (sym told)
-    ∙ ap (λ (xs : List (List Event)). done ++ xs) (sym (ap (those mine) (leaf w k n s new ended.short ended.over)) ∙ ended.tries) ∙ all
+    ∙ ap (λ (xs : List (List Event)). done ++ xs) (sym (ap (those mine) (leaf w k n s new ended.short ended.over)) ∙ ended.tries.of_shard) ∙ all
+
+-- the path's own was one of those that were left
+pub fewer_left : {S : Type 0} (w : Machine (State S)) (k n : ℕ) (s : State S) (shard : Shard) (old new : List Turn) (world : WorldKept S) (standing : Standing) →
+    HasEnded world w k n s shard old new standing → AreFewer w k n s old new
+fewer_left w k n s shard old new world standing ended =
+    let own = ap (λ (xs : List (List Event)). length xs) (leaf w k n s new ended.short ended.over) in
+    let few = ended.tries.of_all in
+    omega (arith, own, few)
 
 -- it is of another shard
 pub passed : {S : Type 0} (w : Machine (State S)) (outcome : State S → Outcome) (k n : ℕ) (s : State S) (shard : Shard) (old new : List Turn) (found : List Found) (world : WorldKept S) (standing : Standing) (tried : ℕ) →
@@ -209,6 +222,23 @@ trying_next w outcome k n s shard old new found tried h (gives_way front spent t
       count = h.count;
       short = omega arith;
     }
+
+-- before the first walk all schedules are left
+pub walks_none : {A : Type 0} (w : Machine A) (k n : ℕ) (s : A) (path : List Turn) → path ≡ [] → 0 + length (to_try w k n s path) ≤ length (schedules w k n s)
+unfolding to_try
+walks_none w k n s [] is = omega arith
+walks_none w k n s (turn ∷ turns) is = cc
+
+-- so many walks, and what is left, are no more than all schedules
+pub walks_more : {A : Type 0} (w : Machine A) (k n : ℕ) (s : A) (walks : ℕ) (old mid new : List Turn) → length mid ≤ n → walks + length (to_try w k n s old) ≤ length (schedules w k n s) →
+    AreFewer w k n s old mid → IsAdvance mid new true → walks + 1 + length (to_try w k n s new) ≤ length (schedules w k n s)
+walks_more w k n s walks old mid new short so_far fewer (gives_way front spent turn next was gone first is) =
+    let length_was = ap (λ (p : List Turn). length p) was in
+    let fits : length (front ++ turn ∷ spent) ≤ n = omega arith in
+    let left = ap (λ (p : List Turn). length (behind w k n s p)) was in
+    let now = ap (λ (xs : List (List Event)). length xs) (over w k n s front spent turn next fits gone first) in
+    let next_is = ap (λ (p : List Turn). length (to_try w k n s p)) is in
+    omega (arith, so_far, fewer, left, now, next_is)
 
 -- there is no next one
 pub explored : {A : Type 0} (w : Machine A) (outcome : A → Outcome) (k n : ℕ) (s : A) (shard : Shard) (old new : List Turn) (found : List Found) (tried : ℕ) →

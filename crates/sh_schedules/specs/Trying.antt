@@ -1,5 +1,5 @@
 -- How far the trying of schedules has come.
-use Rattle.std.specs.Prelude.{◌≡◌, ℕ, ◌-◌, ◌<◌, ◌≤◌, ◌⊎◌, List, [], ◌∷◌, ◌++◌, Bool, true, false, length, take, Ok, Option, Some, None}
+use Rattle.std.specs.Prelude.{◌≡◌, ℕ, ◌-◌, ◌<◌, ◌≤◌, ◌^◌, ◌⊎◌, List, [], ◌∷◌, ◌++◌, Bool, true, false, length, take, Ok, Option, Some, None}
 use Rattle.sh_files.specs.Image.{read_image}
 use Rattle.sh_files.specs.Nodes.{FileMap}
 use Rattle.sh_stock.specs.Asking.{Meaning}
@@ -14,6 +14,9 @@ use Rattle.sh_schedules_outcomes.specs.Found.{AreDistinct, AreFound, IsTally, Sh
 use Rattle.sh_schedules.specs.Shards.{first_mark, is_of_shard, mark_after, marked, reaching, shard_of, those}
 use Rattle.sh_schedules_outcomes.specs.Shell.{outcome_of, shell}
 use Rattle.sh_schedules.specs.declared.exploring.Bounds.{Bounds}
+use Rattle.sh_schedules_outcomes.specs.declared.fault.ExploreFault.{ExploreFault}
+use Rattle.sh_schedules_outcomes.specs.declared.fault.ExploreFault.TheVariants.{TooMany}
+use Rattle.sh_schedules_outcomes.specs.Refusals.{IsRefusedImage}
 use Rattle.sh_schedules_outcomes.specs.declared.found.Found.{Found}
 use Rattle.sh_schedules_outcomes.specs.declared.outcome.Outcome.{Outcome}
 use Rattle.sh_schedules.specs.declared.path.Turn.{Turn}
@@ -45,17 +48,26 @@ IsOver w k n s path = (choices w (spare w k s (events_of path)) (end_of w s (eve
 abbrev pub left_of : {A : Type 0} → Machine A → Shard → ℕ → ℕ → A → List Turn → List (List Event)
 left_of w shard k n s path = those (is_of_shard w shard s) (to_try w k n s path)
 
+-- a path leaves as much of the shard to be tried as another, and no more of all schedules
+pub record IsAsMuch {A : Type 0} (w : Machine A) (shard : Shard) (k n : ℕ) (s : A) (old new : List Turn) : Type 0 where
+  pub of_shard : left_of w shard k n s new ≡ left_of w shard k n s old
+  pub of_all : length (to_try w k n s new) ≤ length (to_try w k n s old)
+
 -- the path has gone on by one turn or not, at the first choice, and has as much to try
 pub data HasGone {S : Type 0} (world : WorldKept S) (w : Machine (State S)) (k n : ℕ) (s : State S) (shard : Shard) (old new : List Turn) (standing : Standing) : Bool → Type 0 where
-  went_on : HasTaken world w k s new standing → left_of w shard k n s new ≡ left_of w shard k n s old → HasGone world w k n s shard old new standing true
+  went_on : HasTaken world w k s new standing → IsAsMuch w shard k n s old new → HasGone world w k n s shard old new standing true
   went_nowhere : HasTaken world w k s new standing → new ≡ old → IsOver w k n s new → HasGone world w k n s shard old new standing false
 
 -- the path is a whole schedule, and has as much to try
 pub record HasEnded {S : Type 0} (world : WorldKept S) (w : Machine (State S)) (k n : ℕ) (s : State S) (shard : Shard) (old new : List Turn) (standing : Standing) : Type 0 where
   pub taken : HasTaken world w k s new standing
-  pub tries : left_of w shard k n s new ≡ left_of w shard k n s old
+  pub tries : IsAsMuch w shard k n s old new
   pub short : length new ≤ n
   pub over : IsOver w k n s new
+
+-- once the path's own schedule was tried fewer are left than before
+abbrev pub AreFewer : {A : Type 0} → Machine A → ℕ → ℕ → A → (old new : List Turn) → Type 0
+AreFewer w k n s old new = length (behind w k n s new) < length (to_try w k n s old)
 
 -- so many schedules of the shard were tried and counted, and the path's are still to be tried
 pub record IsTrying {A : Type 0} (w : Machine A) (outcome : A → Outcome) (k n : ℕ) (s : A) (shard : Shard) (path : List Turn) (found : List Found) (tried : ℕ) : Type 0 where
@@ -112,6 +124,12 @@ pub record HasExplored {S : Type 0} (m : Meaning S) (image : List ℕ) (settings
   pub exploration : IsExploration (shell m) outcome_of bounds.preemptions bounds.turns (start files settings) found tried is_complete
   pub within : tried ≤ bounds.schedules
   pub stopped : is_complete ≡ false → tried ≡ bounds.schedules
+
+-- why nothing is explored: an image that is refused has this fault, and where there are too many schedules there are 2^64 - 1 of them or more
+pub record IsUnexplored {S : Type 0} (m : Meaning S) (image : List ℕ) (settings : Settings) (bounds : Bounds) (fault : ExploreFault) : Type 0 where
+  pub refused : IsRefusedImage image fault
+  pub too_many : fault ≡ TooMany → (files : FileMap) → read_image image ≡ Ok files →
+      2 ^ 64 - 1 ≤ length (schedules (shell m) bounds.preemptions bounds.turns (start files settings))
 
 -- what `explore_shard` gives, likewise
 pub record HasExploredShard {S : Type 0} (m : Meaning S) (image : List ℕ) (settings : Settings) (bounds : Bounds) (shard : Shard) (found : List Found) (tried : ℕ) (is_complete : Bool) : Type 0 where

@@ -10,7 +10,7 @@ ghost use Rattle.sh_schedules_outcomes.specs.Refusals.{IsRefusal};
 ghost use Rattle.sh_schedules_outcomes.specs.Shell.{outcome_of, shell};
 ghost use Rattle.sh_schedules.specs.Checkpoints.{AreCheckpoints, IsCheckpoint};
 ghost use Rattle.sh_schedules.specs.declared.path.Turn.{Turn as PathTurn};
-ghost use Rattle.sh_schedules.specs.Trying.{HasExplored, HasExploredShard, HasWalked, IsShardExploration, IsTrying, IsWithin};
+ghost use Rattle.sh_schedules.specs.Trying.{AreFewer, HasExplored, HasExploredShard, HasWalked, IsShardExploration, IsTrying, IsUnexplored, IsWithin};
 
 use crate::checkpoints::{Checkpoint, first_checkpoint, forget, last_checkpoint};
 use crate::path::{Turn, advance};
@@ -110,7 +110,8 @@ fn try_next<S: CopyStock>(
         → AreCheckpoints (shell S.meaning) bounds.preemptions s path.old.items checkpoints.old.items
         → IsTrying (shell S.meaning) outcome_of bounds.preemptions bounds.turns s shard path.old.items found.old.items tried
         → IfOk result (λ after. HasWalked (shell S.meaning) outcome_of bounds.preemptions bounds.turns s shard path.new.items found.new.items tried after
-        × AreCheckpoints (shell S.meaning) bounds.preemptions s path.new.items checkpoints.new.items) }
+        × AreCheckpoints (shell S.meaning) bounds.preemptions s path.new.items checkpoints.new.items
+        × AreFewer (shell S.meaning) bounds.preemptions bounds.turns s path.old.items path.new.items) }
     ensures within { IfOk result (λ after. IsWithin bounds.schedules tried after) }
 {
     let standing = take_rest(
@@ -156,7 +157,8 @@ fn try_one<S: CopyStock>(
         → AreCheckpoints (shell S.meaning) bounds.preemptions (start files settings.now) path.old.items checkpoints.old.items
         → IsTrying (shell S.meaning) outcome_of bounds.preemptions bounds.turns (start files settings.now) shard path.old.items found.old.items tried
         → IfOk result (λ after. HasWalked (shell S.meaning) outcome_of bounds.preemptions bounds.turns (start files settings.now) shard path.new.items found.new.items tried after
-        × AreCheckpoints (shell S.meaning) bounds.preemptions (start files settings.now) path.new.items checkpoints.new.items) }
+        × AreCheckpoints (shell S.meaning) bounds.preemptions (start files settings.now) path.new.items checkpoints.new.items
+        × AreFewer (shell S.meaning) bounds.preemptions bounds.turns (start files settings.now) path.old.items path.new.items) }
     ensures within { IfOk result (λ after. IsWithin bounds.schedules tried after) }
     ensures refused { IfErr result (λ fault. IsRefusal image.now fault) }
 {
@@ -207,7 +209,7 @@ fn try_all<S: CopyStock>(
         IsShardExploration (shell S.meaning) outcome_of bounds.preemptions bounds.turns (start files settings.now) shard found.new.items tried.schedules tried.is_complete) }
     ensures within { IfOk result (λ tried. tried.schedules ≤ bounds.schedules) }
     ensures stopped { IfOk result (λ tried. tried.is_complete ≡ false → tried.schedules ≡ bounds.schedules) }
-    ensures refused { IfErr result (λ fault. IsRefusal image.now fault) }
+    ensures refused { IfErr result (λ fault. IsUnexplored S.meaning image.now settings.now bounds fault) }
 {
     let mut path = Vec::new(alloc);
     let mut tried = 0u64;
@@ -257,7 +259,7 @@ pub fn explore_shard<S: CopyStock>(
 ) -> Result<Exploration, ExploreFault>
     ensures explored { IfOk result (λ e.
         HasExploredShard S.meaning image.now settings.now bounds shard e.found.items e.schedules e.is_complete) }
-    ensures refused { IfErr result (λ fault. IsRefusal image.now fault) }
+    ensures refused { IfErr result (λ fault. IsUnexplored S.meaning image.now settings.now bounds fault) }
 {
     let files = files_of(alloc, image)?;
     drop(files);
@@ -301,7 +303,7 @@ pub fn explore<S: CopyStock>(
 ) -> Result<Exploration, ExploreFault>
     ensures explored { IfOk result (λ e.
         HasExplored S.meaning image.now settings.now bounds e.found.items e.schedules e.is_complete) }
-    ensures refused { IfErr result (λ fault. IsRefusal image.now fault) }
+    ensures refused { IfErr result (λ fault. IsUnexplored S.meaning image.now settings.now bounds fault) }
 {
     let all = Shard {
         before: 0,

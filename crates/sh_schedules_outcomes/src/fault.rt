@@ -33,8 +33,9 @@ impl From<NoMemory> for ExploreFault {
 
 /// Why there is no exploration, where an image is refused.
 pub(crate) fn refusal(fault: ImageFault) -> ExploreFault
-    ensures { (f : ImageFault) → result ≡ reason.Image f
+    ensures image { (f : ImageFault) → result ≡ reason.Image f
         → (f ≡ fault) × (fault.kind ≢ kind.NoMemory no_memory) }
+    ensures few { result ≢ reason.TooMany }
 {
     if let FaultKind::NoMemory(lack) = fault.kind {
         return ExploreFault::NoMemory(lack);

@@ -144,7 +144,8 @@ pub fn note(
     events: Sequence<Event>,
     preemptions: u32,
 ) -> Result<(), NoMemory>
-    ensures { OnOk result (Noted found.old.items outcome events preemptions found.new.items) }
+    ensures noted { OnOk result (Noted found.old.items outcome events preemptions found.new.items) }
+    ensures lack { OnErr result (found.new.items ≡ found.old.items) }
 {
     let place = place_of(found, &outcome);
     if place < found.len() {
@@ -162,9 +163,10 @@ pub fn note(
 }
 
 /// Adds what was found in a shard to what was found in others: to the one with the same outcome, or as a new one. Where the two counts don't
-/// fit in 64 bits the sum is the greatest number. The error is want of memory.
+/// fit in 64 bits the sum is the greatest number. The error is want of memory: then what was found is as it was, and `one` is let go.
 pub fn join(found: &mut Vec<Found>, one: Found) -> Result<(), NoMemory>
-    ensures { OnOk result (Joined found.old.items one found.new.items) }
+    ensures joined { OnOk result (Joined found.old.items one found.new.items) }
+    ensures lack { OnErr result (found.new.items ≡ found.old.items) }
 {
     let place = place_of(found, &one.outcome);
     if place < found.len() {

@@ -8,4 +8,4 @@ use Rattle.sh_schedules.proofs.exploring.count.Goals as goal
 pub returns : goal.returns
 returns g c = λ s h.
     subst (λ (o : Outcome). OnOk c.note.result (Noted c.args.found.now.items o (events_of c.args.path.now) c.args.preemptions c.note.new.found.items)) (c.in_ok-outcome.ensures s h)
-    (subst (λ (es : List Event). OnOk c.note.result (Noted c.args.found.now.items c.in_ok-outcome.outcome es c.args.preemptions c.note.new.found.items)) c.in_ok-events.ensures c.note.ensures)
+    (subst (λ (es : List Event). OnOk c.note.result (Noted c.args.found.now.items c.in_ok-outcome.outcome es c.args.preemptions c.note.new.found.items)) c.in_ok-events.ensures c.note.ensures.noted)

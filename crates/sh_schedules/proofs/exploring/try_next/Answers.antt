@@ -6,7 +6,7 @@ use Rattle.sh_schedules_outcomes.specs.Shell.{outcome_of, shell}
 use Rattle.sh_schedules.specs.Checkpoints.{IsCheckpoint}
 use Rattle.sh_schedules.specs.Trying.{HasTaken}
 use Rattle.sh_schedules.specs.declared.path.Turn.{Turn}
-use Rattle.sh_schedules.proofs.Walk.{cut_off, passed, tried_more}
+use Rattle.sh_schedules.proofs.Walk.{cut_off, fewer_left, passed, tried_more}
 use Rattle.sh_schedules.proofs.exploring.try_next.Goals as goal
 
 -- the schedule is of another shard
@@ -21,6 +21,7 @@ returns-then-not-is_of-clause-walked g c = λ s h checkpoints trying.
       passed w outcome_of c.args.bounds.preemptions c.args.bounds.turns s c.args.shard c.args.path.now.items c.go_to_end.new.path.items c.args.found.now.items c.go_to_end.new.world
           c.in_ok-standing-2.standing c.args.tried trying ended.0 (sym c.is_of.ensures ∙ c.if-not-is_of.true),
       ended.1,
+      fewer_left w c.args.bounds.preemptions c.args.bounds.turns s c.args.shard c.args.path.now.items c.go_to_end.new.path.items c.go_to_end.new.world c.in_ok-standing-2.standing ended.0,
     )
 
 -- no more may be tried
@@ -35,6 +36,7 @@ returns-then-tried-bounds-clause-walked g c = λ s h checkpoints trying.
       cut_off w outcome_of c.args.bounds.preemptions c.args.bounds.turns s c.args.shard c.args.path.now.items c.go_to_end.new.path.items c.args.found.now.items c.go_to_end.new.world
           c.in_ok-standing-2.standing c.args.tried trying ended.0 (sym c.is_of.ensures ∙ c.if-not-is_of.false),
       ended.1,
+      fewer_left w c.args.bounds.preemptions c.args.bounds.turns s c.args.shard c.args.path.now.items c.go_to_end.new.path.items c.go_to_end.new.world c.in_ok-standing-2.standing ended.0,
     )
 
 pub returns-clause-walked : goal.returns-clause-walked
@@ -54,4 +56,5 @@ returns-clause-walked g c = λ s h checkpoints trying.
           (subst (λ (cost : ℕ). Noted c.args.found.now.items (outcome_of (end_of w s (events_of c.go_to_end.new.path.items))) (events_of c.go_to_end.new.path.items) cost c.count.new.found.items)
           c.saturating_sub-preemptions.ensures told),
       ended.1,
+      fewer_left w c.args.bounds.preemptions c.args.bounds.turns s c.args.shard c.args.path.now.items c.go_to_end.new.path.items c.go_to_end.new.world c.in_ok-standing-2.standing ended.0,
     )

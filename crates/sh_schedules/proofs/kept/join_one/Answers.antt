@@ -11,5 +11,5 @@ returns-in-Ok-clause-joined g c = λ files is. record {
   retraced =
       subst (λ (places : List ℕ). IsRetraced (shell g.S.Stock.meaning) outcome_of (start files c.args.settings.now) (map Run places) c.args.kept.now.schedules c.in_ok-one.one)
       c.as_slice-places.ensures.value (c.in_ok-one.ensures.retraced files is);
-  joined = c.in-Ok.ensures;
+  joined = c.in-Ok.ensures.joined;
 }
