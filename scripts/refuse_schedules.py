@@ -19,7 +19,7 @@ TOP = os.path.dirname(os.path.dirname(os.path.abspath(__file__)))
 EXPLORATIONS = [
     ["--preemptions", "1", "-c", "echo a & echo b & wait", "image"],
     ["--preemptions", "1", "--schedules", "5", "-c", "x=1; (x=2) & wait; echo $x >f; cat f | having 1", "image"],
-    ["--all", "--turns", "9", "-c", "cat <in | cat", "image"],
+    ["--all", "--turns", "6", "-c", "cat <in | cat", "image"],
     ["--preemptions", "0", "--keep", "kept", "-c", "read x </dev/tty & echo $(echo a) & wait", "image"],
     ["--preemptions", "many", "-c", ":", "image"],
     ["--shard", "1/2", "--preemptions", "1", "-c", "echo a & echo b & wait", "image"],

@@ -130,6 +130,7 @@ impl Row {
 }
 
 /// What a process is about to do.
+#[derive(Drop)]
 struct Prospect {
     action: TurnAction,
     words: Option<Sequence<Text>>,
@@ -166,8 +167,66 @@ fn written_since<S: Stock>(
     Ok(Text::copy_of(alloc, world.terminal().get(shown..).unwrap_or(&[]))?)
 }
 
+impl Record {
+    /// Notes a key behind which a world stands, whose terminal showed so many bytes before it.
+    fn note_key<S: Stock>(
+        &mut self,
+        alloc: Global,
+        world: &World<S>,
+        byte: u8,
+        shown: usize,
+    ) -> Result<(), NoMemory> {
+        let written = written_since(alloc, world, shown)?;
+        self.turns.push(Turn {
+            cause: Cause::Key(byte),
+            made: None,
+            written,
+        })?;
+        self.note_ends(world);
+        Ok(())
+    }
+
+    /// Notes the turn of a process behind which a world stands, whose terminal showed so many bytes before it.
+    fn note_turn<S: Stock>(
+        &mut self,
+        alloc: Global,
+        world: &World<S>,
+        pid: u32,
+        prospect: Prospect,
+        shown: usize,
+    ) -> Result<(), NoMemory> {
+        let Prospect { action, words } = prospect;
+        let process = pid.saturating_sub(FIRST_PID) as usize;
+        let made = self.add_made(alloc, world)?;
+        let written = written_since(alloc, world, shown)?;
+        let status = world.status(pid).unwrap_or(Status::Running);
+        let cause = Cause::Turn(Move {
+            process,
+            action,
+            status,
+        });
+        self.turns.push(Turn {
+            cause,
+            made,
+            written,
+        })?;
+        if let Some(words) = words {
+            self.start(process, words);
+        }
+        self.note_ends(world);
+        Ok(())
+    }
+}
+
+/// Gives a world an event. The answer is how many bytes the terminal had before it.
+fn apply_event<S: Stock>(world: &mut World<S>, event: Event) -> Result<usize, NoMemory> {
+    let shown = world.terminal().len();
+    world.apply(event)?;
+    Ok(shown)
+}
+
 /// Gives a world a key, and notes what it did. The answer is whether the first shell lived.
-fn note_key<S: Stock>(
+fn press<S: Stock>(
     alloc: Global,
     world: &mut World<S>,
     byte: u8,
@@ -176,48 +235,22 @@ fn note_key<S: Stock>(
     if world.ended().is_some() {
         return Ok(false);
     }
-    let shown = world.terminal().len();
-    world.apply(Event::Key(byte))?;
-    let written = written_since(alloc, world, shown)?;
-    record.turns.push(Turn {
-        cause: Cause::Key(byte),
-        made: None,
-        written,
-    })?;
-    record.note_ends(world);
+    let shown = apply_event(world, Event::Key(byte))?;
+    record.note_key(alloc, world, byte, shown)?;
     Ok(true)
 }
 
 /// Gives a world the event that moves this process, and notes the turn.
-fn note_turn<S: Stock>(
+fn take_turn<S: Stock>(
     alloc: Global,
     world: &mut World<S>,
     event: Event,
     pid: u32,
     record: &mut Record,
 ) -> Result<(), NoMemory> {
-    let Prospect { action, words } = prospect_of(alloc, world, pid)?;
-    let shown = world.terminal().len();
-    world.apply(event)?;
-    let process = pid.saturating_sub(FIRST_PID) as usize;
-    let made = record.add_made(alloc, world)?;
-    let written = written_since(alloc, world, shown)?;
-    let status = world.status(pid).unwrap_or(Status::Running);
-    let cause = Cause::Turn(Move {
-        process,
-        action,
-        status,
-    });
-    record.turns.push(Turn {
-        cause,
-        made,
-        written,
-    })?;
-    if let Some(words) = words {
-        record.start(process, words);
-    }
-    record.note_ends(world);
-    Ok(())
+    let prospect = prospect_of(alloc, world, pid)?;
+    let shown = apply_event(world, event)?;
+    record.note_turn(alloc, world, pid, prospect, shown)
 }
 
 /// Gives a world one event, and notes what it did. The answer is whether it did something: whether a process moved, or a key came
@@ -229,12 +262,12 @@ fn note_event<S: Stock>(
     record: &mut Record,
 ) -> Result<bool, NoMemory> {
     if let Event::Key(byte) = event {
-        return note_key(alloc, world, byte, record);
+        return press(alloc, world, byte, record);
     }
     let Some(pid) = world.chosen(event)? else {
         return Ok(false);
     };
-    note_turn(alloc, world, event, pid, record)?;
+    take_turn(alloc, world, event, pid, record)?;
     Ok(true)
 }
 
