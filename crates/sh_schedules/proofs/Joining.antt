@@ -13,7 +13,7 @@ counts_one : (found new : List Found) (one : Found) → Joined found one new →
 counts_one [] new one h few = let e = ap counted h in omega arith
 counts_one (f ∷ fs) [] one h few = absurd h
 counts_one (f ∷ fs) (g ∷ gs) one (inl h) few =
-    let sum = h.1.counts (omega arith) in
+    let sum = h.1.counts in
     let rest = ap counted h.2 in
     omega arith
 counts_one (f ∷ fs) (g ∷ gs) one (inr h) few =
@@ -168,7 +168,7 @@ first_sum w outcome s done others f one g seen same (inr old) h i =
 found_sum : {A : Type 0} (w : Machine A) (outcome : A → Outcome) (k n : ℕ) (s : A) (done others : List (List Event)) (f one g : Found) → IsFound w outcome k n s done f →
     IsFound w outcome k n s others one → f.outcome ≡ one.outcome → IsSum f one g → f.schedules + one.schedules < 2 ^ 64 → IsFound w outcome k n s (done ++ others) g
 found_sum w outcome k n s done others f one g old other same sum few =
-    let number = number_sum w outcome s done others f one g sum.outcome_is same (sum.counts few) old.number other.number in
+    let number = number_sum w outcome s done others f one g sum.outcome_is same (omega arith) old.number other.number in
     let first = first_sum w outcome s done others f one g sum.outcome_is same sum.kept old.first other.first in
     elim sum.kept [
       | inl new ↦ record {

@@ -12,7 +12,7 @@ use Rattle.sh_schedules_outcomes.specs.Choices.{In, choices, schedules}
 use Rattle.sh_schedules.specs.Paths.{IsAdvance, behind, event_of, events_of, spare, to_try}
 use Rattle.sh_schedules.specs.Paths.IsAdvance.{gives_way, none_left}
 use Rattle.sh_schedules_outcomes.specs.Found.{AreFound, IsTally, Noted}
-use Rattle.sh_schedules.specs.Trying.{AreFewer, HasEnded, HasGone, HasTaken, IsAfter, IsAsMuch, IsExploration, IsShardExploration, IsTried, IsTrying, left_of}
+use Rattle.sh_schedules.specs.Trying.{AreFewer, HasEnded, HasGone, HasTaken, IsAfter, IsExploration, IsShardExploration, IsTried, IsTrying, LeavesNoMore, left_of}
 use Rattle.sh_schedules.specs.Trying.HasGone.{went_nowhere, went_on}
 use Rattle.sh_schedules_outcomes.specs.declared.found.Found.{Found}
 use Rattle.sh_schedules_outcomes.specs.declared.outcome.Outcome.{Outcome}
@@ -92,22 +92,22 @@ gone_nowhere w k n s shard path places world standing h are none =
 
 -- the path goes on no further
 pub ended_here : {S : Type 0} (w : Machine (State S)) (k n : ℕ) (s : State S) (shard : Shard) (old mid new : List Turn) (world : WorldKept S) (standing : Standing) (more : Bool) →
-    HasGone world w k n s shard mid new standing more → more ≡ false → IsAsMuch w shard k n s old mid → length mid ≤ n →
+    HasGone world w k n s shard mid new standing more → more ≡ false → LeavesNoMore w shard k n s old mid → length mid ≤ n →
     HasEnded world w k n s shard old new standing
 ended_here w k n s shard old mid new world standing true (went_on taken tries) none same short = cc
 ended_here w k n s shard old mid new world standing false (went_nowhere taken is over) none same short =
     let length_is = ap (λ (p : List Turn). length p) is in
-    record { taken = taken; tries = subst (λ (p : List Turn). IsAsMuch w shard k n s old p) (sym is) same; short = omega arith; over = over }
+    record { taken = taken; tries = subst (λ (p : List Turn). LeavesNoMore w shard k n s old p) (sym is) same; short = omega arith; over = over }
 
 -- there were as many turns as may be
 pub at_most : {S : Type 0} (w : Machine (State S)) (k n : ℕ) (s : State S) (shard : Shard) (old new : List Turn) (world : WorldKept S) (standing : Standing) →
-    HasTaken world w k s new standing → IsAsMuch w shard k n s old new → length new ≤ n → n ≤ length new → HasEnded world w k n s shard old new standing
+    HasTaken world w k s new standing → LeavesNoMore w shard k n s old new → length new ≤ n → n ≤ length new → HasEnded world w k n s shard old new standing
 at_most w k n s shard old new world standing taken same short enough = record { taken = taken; tries = same; short = short; over = inr (omega arith) }
 
 -- it goes on
 pub further_on : {S : Type 0} (w : Machine (State S)) (k n : ℕ) (s : State S) (shard : Shard) (old mid new : List Turn) (world : WorldKept S) (standing : Standing) (more : Bool) →
-    HasGone world w k n s shard mid new standing more → more ≡ true → IsAsMuch w shard k n s old mid → length mid < n →
-    (more ≡ true → length new ≡ length mid + 1) → HasTaken world w k s new standing × IsAsMuch w shard k n s old new × (length new ≤ n)
+    HasGone world w k n s shard mid new standing more → more ≡ true → LeavesNoMore w shard k n s old mid → length mid < n →
+    (more ≡ true → length new ≡ length mid + 1) → HasTaken world w k s new standing × LeavesNoMore w shard k n s old new × (length new ≤ n)
 further_on w k n s shard old mid new world standing true (went_on taken tries) on same short longer =
     let length_is = longer refl in
     let fewer = tries.of_all in

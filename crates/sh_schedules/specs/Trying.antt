@@ -49,19 +49,19 @@ abbrev pub left_of : {A : Type 0} → Machine A → Shard → ℕ → ℕ → A 
 left_of w shard k n s path = those (is_of_shard w shard s) (to_try w k n s path)
 
 -- a path leaves as much of the shard to be tried as another, and no more of all schedules
-pub record IsAsMuch {A : Type 0} (w : Machine A) (shard : Shard) (k n : ℕ) (s : A) (old new : List Turn) : Type 0 where
+pub record LeavesNoMore {A : Type 0} (w : Machine A) (shard : Shard) (k n : ℕ) (s : A) (old new : List Turn) : Type 0 where
   pub of_shard : left_of w shard k n s new ≡ left_of w shard k n s old
   pub of_all : length (to_try w k n s new) ≤ length (to_try w k n s old)
 
 -- the path has gone on by one turn or not, at the first choice, and has as much to try
 pub data HasGone {S : Type 0} (world : WorldKept S) (w : Machine (State S)) (k n : ℕ) (s : State S) (shard : Shard) (old new : List Turn) (standing : Standing) : Bool → Type 0 where
-  went_on : HasTaken world w k s new standing → IsAsMuch w shard k n s old new → HasGone world w k n s shard old new standing true
+  went_on : HasTaken world w k s new standing → LeavesNoMore w shard k n s old new → HasGone world w k n s shard old new standing true
   went_nowhere : HasTaken world w k s new standing → new ≡ old → IsOver w k n s new → HasGone world w k n s shard old new standing false
 
 -- the path is a whole schedule, and has as much to try
 pub record HasEnded {S : Type 0} (world : WorldKept S) (w : Machine (State S)) (k n : ℕ) (s : State S) (shard : Shard) (old new : List Turn) (standing : Standing) : Type 0 where
   pub taken : HasTaken world w k s new standing
-  pub tries : IsAsMuch w shard k n s old new
+  pub tries : LeavesNoMore w shard k n s old new
   pub short : length new ≤ n
   pub over : IsOver w k n s new
 

@@ -38,7 +38,6 @@ counts_more : (found new : List Found) (outcome : Outcome) (es : List Event) (c 
 counts_more [] new outcome es c h few = ap counted h
 counts_more (f ∷ fs) [] outcome es c h few = absurd h
 counts_more (f ∷ fs) (g ∷ gs) outcome es c (inl h) few =
-    let one = h.1.counts (omega arith) in
     let rest = ap counted h.2 in
     omega arith
 counts_more (f ∷ fs) (g ∷ gs) outcome es c (inr h) few =
@@ -150,7 +149,7 @@ first_again w outcome s f g es done seen (inr old) h =
 found_again : {A : Type 0} (w : Machine A) (outcome : A → Outcome) (k n : ℕ) (s : A) (f g : Found) (es : List Event) (done : List (List Event)) → IsFound w outcome k n s done f →
     IsSchedule w k n s es → f.outcome ≡ outcome (end_of w s es) → IsAgain f es (preemptions w s es) g → f.schedules + 1 < 2 ^ 64 → IsFound w outcome k n s (done ++ es ∷ []) g
 found_again w outcome k n s f g es done old is same again few =
-    let number = number_again w outcome s f g es done again.outcome_is (again.counts few) old.number (sym same) in
+    let number = number_again w outcome s f g es done again.outcome_is (omega arith) old.number (sym same) in
     let first = first_again w outcome s f g es done again.outcome_is again.kept old.first in
     elim again.kept [
       | inl new ↦ record {

@@ -1,5 +1,5 @@
 -- The outcomes that were found, as schedules are counted to them.
-use Rattle.std.specs.Prelude.{◌≡◌, ◌≢◌, ℕ, zero, suc, ◌+◌, ◌<◌, ◌^◌, ◌⊎◌, List, [], ◌∷◌, length, Bool, true, false}
+use Rattle.std.specs.Prelude.{◌≡◌, ◌≢◌, ℕ, zero, suc, ◌+◌, ◌-◌, min, ◌<◌, ◌^◌, ◌⊎◌, List, [], ◌∷◌, length, Bool, true, false}
 use Rattle.sh_exec.specs.declared.event.Event.{Event}
 use Rattle.sh_schedules_outcomes.specs.Schedules.{IsSchedule, Machine, end_of, preemptions}
 use Rattle.sh_schedules_outcomes.specs.Preference.{comes_before}
@@ -23,10 +23,10 @@ IsPreferred cost events old new =
     ((comes_before cost events old.preemptions old.events ≡ true) × (new.events ≡ events) × (new.preemptions ≡ cost))
     ⊎ ((comes_before cost events old.preemptions old.events ≡ false) × (new.events ≡ old.events) × (new.preemptions ≡ old.preemptions))
 
--- one more schedule with this outcome
+-- one more schedule with this outcome; at 2^64 - 1 their number stays
 pub record IsAgain (old : Found) (events : List Event) (cost : ℕ) (new : Found) : Type 0 where
   pub outcome_is : new.outcome ≡ old.outcome
-  pub counts : old.schedules + 1 < 2 ^ 64 → new.schedules ≡ old.schedules + 1
+  pub counts : new.schedules ≡ min (old.schedules + 1) (2 ^ 64 - 1)
   pub kept : IsPreferred cost events old new
 
 -- a schedule with this outcome is counted
@@ -36,10 +36,10 @@ Noted (f ∷ fs) outcome events cost [] = ⊥
 Noted (f ∷ fs) outcome events cost (g ∷ gs) =
     ((f.outcome ≡ outcome) × IsAgain f events cost g × (gs ≡ fs)) ⊎ ((f.outcome ≢ outcome) × (g ≡ f) × Noted fs outcome events cost gs)
 
--- two with one outcome are counted together
+-- two with one outcome are counted together, up to 2^64 - 1
 pub record IsSum (old one new : Found) : Type 0 where
   pub outcome_is : new.outcome ≡ old.outcome
-  pub counts : old.schedules + one.schedules < 2 ^ 64 → new.schedules ≡ old.schedules + one.schedules
+  pub counts : new.schedules ≡ min (old.schedules + one.schedules) (2 ^ 64 - 1)
   pub kept : IsPreferred one.preemptions one.events old new
 
 -- one that was found elsewhere is added

@@ -35,7 +35,7 @@ impl From<NoMemory> for ExploreFault {
 pub(crate) fn refusal(fault: ImageFault) -> ExploreFault
     ensures image { (f : ImageFault) → result ≡ reason.Image f
         → (f ≡ fault) × (fault.kind ≢ kind.NoMemory no_memory) }
-    ensures few { result ≢ reason.TooMany }
+    ensures not_too_many { result ≢ reason.TooMany }
 {
     if let FaultKind::NoMemory(lack) = fault.kind {
         return ExploreFault::NoMemory(lack);
