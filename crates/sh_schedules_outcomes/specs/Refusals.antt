@@ -9,6 +9,6 @@ use Rattle.sh_schedules_outcomes.specs.declared.fault.ExploreFault.TheVariants.{
 abbrev pub IsRefusedImage : List ℕ → ExploreFault → Type 0
 IsRefusedImage image fault = (f : ImageFault) → fault ≡ Image f → read_image image ≡ Err f
 
--- a call that doesn't try all schedules says nothing else, and never that there are too many
+-- the same, of a call that doesn't try all schedules; it never says that there are too many
 abbrev pub IsRefusal : List ℕ → ExploreFault → Type 0
 IsRefusal image fault = IsRefusedImage image fault × (fault ≢ TooMany)
