@@ -10,15 +10,20 @@ PARTS = ["src", "specs", "proofs"]
 OUT = f"{TOP}/out"
 
 
-def crates_below(name):
-    """The crates of this repository that one stands on, and itself, as crates.txt names them."""
+def named_crates():
+    """Each crate of this repository with the words behind it, as crates.txt has them."""
     lines = {}
     with open(f"{TOP}/crates.txt", encoding="utf-8") as file:
         for line in file:
             crate, found, below = line.partition(":")
             if found and not line.startswith("#"):
                 lines[crate.split()[0]] = below.split()
-    wanted, found = [name], []
+    return lines
+
+
+def crates_below(name):
+    """The crates of this repository that one stands on, and itself, as crates.txt names them."""
+    lines, wanted, found = named_crates(), [name], []
     while wanted:
         crate = wanted.pop()
         if crate in lines and crate not in found:
@@ -29,8 +34,7 @@ def crates_below(name):
 
 def crates_below_all():
     """All crates of this repository, as crates.txt names them."""
-    with open(f"{TOP}/crates.txt", encoding="utf-8") as file:
-        return sorted(it.split()[0] for it, found, _ in (line.partition(":") for line in file) if found and not it.startswith("#"))
+    return sorted(named_crates())
 
 
 def put_names(crates, to):

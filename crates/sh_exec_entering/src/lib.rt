@@ -9,4 +9,5 @@ mod step;
 pub use bodies::{body_of, list_body, stage};
 pub use entering::{enter, enter_command, enter_inside, enter_joined, enter_list};
 pub use moves::go_to;
+pub use sh_exec_frames::Frames;
 pub use step::Step;

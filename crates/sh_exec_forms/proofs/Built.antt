@@ -1,15 +1,15 @@
 -- What a built-in does to the kernel's state, and that nothing else at a place does anything to it.
 use Rattle.std.proofs.Common.{◌≡◌, ℕ, List, refl, ap, subst, ◌∙◌, drop}
-use Rattle.sh_builtin.specs.Invocations.{invoked}
-use Rattle.sh_builtin.specs.Running.{with_outcome}
-use Rattle.sh_builtin.specs.declared.invocation.Invocation.{Invocation}
-use Rattle.sh_builtin_outcome.specs.declared.outcome.Outcome.{Outcome}
+use Rattle.sh_exec_actions.specs.Invocations.{invoked}
+use Rattle.sh_exec_actions.specs.Running.{with_outcome}
+use Rattle.sh_exec_actions.specs.Invocation.{Invocation}
+use Rattle.sh_exec_actions.specs.Outcome.{Outcome}
 use Rattle.sh_builtin_shell.specs.declared.shell.Shell.{Shell}
 use Rattle.sh_exec_actions.specs.declared.action.Active.{Active}
 use Rattle.sh_exec_actions.specs.declared.action.Active.TheVariants.{Acting, Calling, Evaluating, Next, Done, Leaving}
 use Rattle.sh_exec_actions.specs.declared.form.Form.{Form}
 use Rattle.sh_exec_forms.specs.Builtins.{builtin_machine, effect_at, machine_at, performed}
-use Rattle.sh_exec_frames.specs.Frames.{last_for, levels_left}
+use Rattle.sh_exec_entering.specs.Frames.{last_for, levels_left}
 use Rattle.sh_exec_requests.specs.Signals.{after_traps}
 use Rattle.sh_kernel.specs.State.{KernelKept, KernelState, StandsAt}
 

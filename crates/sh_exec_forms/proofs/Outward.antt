@@ -1,7 +1,7 @@
 -- A tree and the list of its forms: what is settled inward and outward again is settled form by form.
 use Rattle.std.proofs.Common.{◌≡◌, arith, length, List, [], ◌∷◌, Bool, false, refl, sym, ap, subst, ◌∙◌}
 use Rattle.sh_exec_actions.specs.declared.action.Active.TheVariants.{Acting, Calling, Evaluating, Next, Done, Leaving}
-use Rattle.sh_builtin_outcome.specs.declared.outcome.Leave.{Leave}
+use Rattle.sh_exec_actions.specs.Leave.{Leave}
 use Rattle.sh_builtin_shell.specs.declared.shell.Shell.{Shell}
 use Rattle.sh_exec_actions.specs.declared.action.Active.{Active}
 use Rattle.sh_exec_actions.specs.declared.status.CommandStatus.{CommandStatus}

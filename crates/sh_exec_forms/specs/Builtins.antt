@@ -1,9 +1,9 @@
 -- A built-in acts or a function is called, in the turn of the last of what comes before it (2.9.1.4), and a text that is to be run is
 -- entered (2.15 dot, eval).
 use Rattle.std.specs.Prelude.{ℕ, zero, suc, List, drop}
-use Rattle.sh_builtin.specs.Invocations.{invoked}
-use Rattle.sh_builtin_outcome.specs.declared.outcome.TextRun.{TextRun}
-use Rattle.sh_builtin.specs.declared.invocation.Invocation.{Invocation}
+use Rattle.sh_exec_actions.specs.Invocations.{invoked}
+use Rattle.sh_exec_actions.specs.TextRun.{TextRun}
+use Rattle.sh_exec_actions.specs.Invocation.{Invocation}
 use Rattle.sh_builtin_shell.specs.declared.shell.Shell.{Shell}
 use Rattle.sh_exec_actions.specs.declared.action.Active.{Active}
 use Rattle.sh_exec_actions.specs.declared.action.Active.TheVariants.{Acting, Calling, Evaluating, Next, Done, Leaving}
@@ -12,7 +12,7 @@ use Rattle.sh_exec_actions.specs.declared.form.Form.{Form}
 use Rattle.sh_exec_actions.specs.declared.form.Form.TheVariants.{Call, Evaluation}
 use Rattle.sh_exec_command.specs.Expanding.{fatal}
 use Rattle.sh_exec_entering.specs.Entering.{command_run}
-use Rattle.sh_exec_frames.specs.Frames.{last_for, levels_left}
+use Rattle.sh_exec_entering.specs.Frames.{last_for, levels_left}
 use Rattle.sh_exec_requests.specs.Reporting.{behind}
 use Rattle.sh_exec_requests.specs.Signals.{after_traps}
 use Rattle.sh_exec_entering.specs.Running.{Run, At, In}

@@ -1,12 +1,12 @@
 -- What a form becomes when what runs inside it is done, or leaves it.
 use Rattle.std.specs.Prelude.{◌≡◌, ℕ, zero, suc, List, [], ◌∷◌, ◌||◌, ◌&&◌, Bool, true, false, nat_eq, not, Option, Some, None, if◌then◌else◌}
-use Rattle.sh_builtin_outcome.specs.Outcomes.{shell_status}
-use Rattle.sh_builtin_outcome.specs.declared.outcome.Leave.{Leave}
-use Rattle.sh_builtin_outcome.specs.declared.outcome.TextOrigin.{TextOrigin}
-use Rattle.sh_builtin_outcome.specs.declared.outcome.TextOrigin.TheVariants as origin
+use Rattle.sh_exec_actions.specs.Outcomes.{shell_status}
+use Rattle.sh_exec_actions.specs.Leave.{Leave}
+use Rattle.sh_exec_actions.specs.TextOrigin.{TextOrigin}
+use Rattle.sh_exec_actions.specs.TextOrigin.TheVariants as origin
 use Rattle.sh_builtin_shell.specs.Shells.{is_interactive}
 use Rattle.sh_builtin_shell.specs.declared.shell.Shell.{Shell}
-use Rattle.sh_builtin_outcome.specs.declared.outcome.Leave.TheVariants as leave
+use Rattle.sh_exec_actions.specs.Leave.TheVariants as leave
 use Rattle.sh_exec_command.specs.Series.{rest_of_series}
 use Rattle.sh_exec_command.specs.Undoing as variables
 use Rattle.sh_exec_actions.specs.Statuses.{unexcused}
@@ -22,7 +22,7 @@ use Rattle.sh_exec_requests.specs.Prompting.{input_action}
 use Rattle.sh_exec_forms.specs.Builtins.{Performed, effect_at, machine_at, with_parameters}
 use Rattle.sh_exec_entering.specs.Entering.{items_run, with_others, list_run, pipeline_run}
 use Rattle.sh_exec_entering.specs.Stacks.{Goes, run_of}
-use Rattle.sh_exec_frames.specs.Frames.{ends_action, may_return, has_loop, is_failure_ignored}
+use Rattle.sh_exec_entering.specs.Frames.{ends_action, may_return, has_loop, is_failure_ignored}
 use Rattle.sh_exec_entering.specs.Running.{Run, At, In}
 use Rattle.sh_exec_actions.specs.declared.form.Branches.{Branches}
 use Rattle.sh_exec_actions.specs.declared.form.Form.{Form}

@@ -4,11 +4,9 @@ ghost use Rattle.sh_exec_forms.specs.Forms.{Follows, behind_input, behind_status
 ghost use Rattle.sh_kernel.specs.State.{KernelState, StandsAt};
 
 use sh_base::sequence::Text;
-use sh_builtin_outcome::Leave;
 use sh_builtin_shell::Shell;
-use sh_exec_actions::{Action, Active, Beginning};
-use sh_exec_entering::Step;
-use sh_exec_frames::Frames;
+use sh_exec_actions::{Action, Active, Beginning, Leave};
+use sh_exec_entering::{Frames, Step};
 use sh_exec_parts::Rest;
 use sh_exec_requests::input_action;
 use sh_kernel::Kernel;

@@ -5,17 +5,15 @@ ghost use Rattle.sh_exec_actions.specs.Statuses.{unexcused};
 ghost use Rattle.sh_exec_command.specs.Series.{rest_of_series};
 ghost use Rattle.sh_exec_forms.specs.Forms.{Acted, Follows, behind_condition, beyond, condition_run, ended_within, left_within, loop_left, onward, onward_by, runs, within};
 ghost use Rattle.sh_exec_entering.specs.Stacks.{Goes, Leaves};
-ghost use Rattle.sh_exec_frames.specs.Frames.{ends_action, has_loop, is_failure_ignored, may_return};
+ghost use Rattle.sh_exec_entering.specs.Frames.{ends_action, has_loop, is_failure_ignored, may_return};
 ghost use Rattle.sh_exec_entering.specs.Running.{Run};
 ghost use Rattle.sh_kernel.specs.State.{KernelState};
 
 use sh_base::NoMemory;
-use sh_builtin_outcome::Leave;
 use sh_builtin_shell::Shell;
-use sh_exec_actions::{Active, CommandStatus, ForLoop, Form, Loop};
+use sh_exec_actions::{Active, CommandStatus, ForLoop, Form, Leave, Loop};
 use sh_exec_command::rest_of_series;
-use sh_exec_entering::{Step, enter_inside};
-use sh_exec_frames::Frames;
+use sh_exec_entering::{Frames, Step, enter_inside};
 use sh_syntax::tree::LoopKind;
 use std::alloc::Global;
 

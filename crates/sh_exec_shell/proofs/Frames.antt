@@ -4,9 +4,9 @@ use Rattle.std.proofs.lemmas.List.{length-reverse}
 use Rattle.sh_builtin_shell.specs.declared.shell.Shell.{Shell}
 use Rattle.sh_exec_actions.specs.declared.action.Active.{Active}
 use Rattle.sh_exec_turns.specs.Forms.{Acted, IsActed, at_action, outward}
-use Rattle.sh_exec_entering.specs.Stacks.{forms_round, path_of, run_in, run_of}
-use Rattle.sh_exec_frames.specs.Frames.{framed, is_failure_ignored}
-use Rattle.sh_exec_entering.specs.Running.{InterpreterState, Run, At, In, active_of, with_active}
+use Rattle.sh_exec_turns.specs.Stacks.{forms_round, path_of, run_in, run_of}
+use Rattle.sh_exec_turns.specs.Frames.{framed, is_failure_ignored}
+use Rattle.sh_exec_turns.specs.Running.{InterpreterState, Run, At, In, active_of, with_active}
 use Rattle.sh_exec_actions.specs.declared.form.Form.{Form}
 use Rattle.sh_exec_turns.proofs.Outward.{by_forms}
 use Rattle.sh_exec_shell.specs.Forks.{IsTurned, Turned, inherited}

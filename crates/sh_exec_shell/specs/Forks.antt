@@ -3,7 +3,7 @@ use Rattle.std.specs.Prelude.{◌≡◌, ℕ, List, [], ◌∷◌, ◌++◌, Boo
 use Rattle.sh_builtin_shell.specs.Shells.{after_launch, forked_shell, has_job_control, is_interactive, last_of}
 use Rattle.sh_builtin_shell.specs.declared.shell.Shell.{Shell}
 use Rattle.sh_exec_parts.specs.Messages.{cannot_fork, launch_line}
-use Rattle.sh_exec_command.specs.Expanding.{fatal}
+use Rattle.sh_exec_turns.specs.Expanding.{fatal}
 use Rattle.sh_exec_actions.specs.Preparing.{ahead}
 use Rattle.sh_exec_actions.specs.Statuses.{unexcused}
 use Rattle.sh_exec_actions.specs.declared.action.Active.{Active}
@@ -25,15 +25,15 @@ use Rattle.sh_exec_turns.specs.Forms.{Acted, with_run}
 use Rattle.sh_exec_turns.specs.Acting.{in_forms}
 use Rattle.sh_exec_turns.specs.Groups.{behind_fork, released_fork}
 use Rattle.sh_exec_actions.specs.declared.form.Form.{Form}
-use Rattle.sh_exec_entering.specs.Bodies.{body_of, stage_run}
-use Rattle.sh_exec_entering.specs.Entering.{and_or_run}
-use Rattle.sh_exec_entering.specs.Moves.{move_run}
-use Rattle.sh_exec_entering.specs.Stacks.{run_in}
-use Rattle.sh_exec_frames.specs.Frames.{root_forms}
-use Rattle.sh_exec_frames.specs.JobTexts.{job_text}
-use Rattle.sh_exec_requests.specs.Waiting.{waiting}
+use Rattle.sh_exec_turns.specs.Bodies.{body_of, stage_run}
+use Rattle.sh_exec_turns.specs.Entering.{and_or_run}
+use Rattle.sh_exec_turns.specs.Moves.{move_run}
+use Rattle.sh_exec_turns.specs.Stacks.{run_in}
+use Rattle.sh_exec_turns.specs.Frames.{root_forms}
+use Rattle.sh_exec_turns.specs.JobTexts.{job_text}
+use Rattle.sh_exec_turns.specs.Waiting.{waiting}
 use Rattle.sh_jobs.specs.Table.{free_number}
-use Rattle.sh_exec_entering.specs.Running.{InterpreterState, Run, At}
+use Rattle.sh_exec_turns.specs.Running.{InterpreterState, Run, At}
 use Rattle.sh_kernel.specs.State.{KernelKept, KernelState, StandsAt}
 use Rattle.sh_syntax.specs.Text.{and_or_tokens}
 use Rattle.sh_syntax.specs.Tokens.{text_of}

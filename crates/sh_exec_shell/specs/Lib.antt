@@ -1,7 +1,12 @@
 pub mod Forks
 pub mod Reduction
-pub use Rattle.sh_exec_entering.specs.Codes
-pub use Rattle.sh_exec_entering.specs.Running
-pub use Rattle.sh_exec_entering.specs.Stacks
-pub use Rattle.sh_exec_requests.specs.Signals
+pub use Rattle.sh_exec_turns.specs.Acting
+pub use Rattle.sh_exec_turns.specs.Builtins
+pub use Rattle.sh_exec_turns.specs.Codes
+pub use Rattle.sh_exec_turns.specs.Forms
+pub use Rattle.sh_exec_turns.specs.Groups
+pub use Rattle.sh_exec_turns.specs.Input
+pub use Rattle.sh_exec_turns.specs.Running
+pub use Rattle.sh_exec_turns.specs.Signals
+pub use Rattle.sh_exec_turns.specs.Stacks
 pub use Rattle.sh_exec_turns.specs.Traps

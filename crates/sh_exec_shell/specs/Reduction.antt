@@ -1,10 +1,10 @@
 -- One turn of a shell: inward to its active place, the action there, and outward again.
 use Rattle.std.specs.Prelude.{ℕ, List, [], ◌∷◌, Option, Some, None, if◌then◌else◌}
-use Rattle.sh_exec_command.specs.Expanding.{Turn}
-use Rattle.sh_builtin_outcome.specs.Outcomes.{shell_status}
+use Rattle.sh_exec_turns.specs.Expanding.{Turn}
+use Rattle.sh_exec_turns.specs.Outcomes.{shell_status}
 use Rattle.sh_builtin_shell.specs.declared.shell.Shell.{Shell}
-use Rattle.sh_exec_command.specs.Reading.{next_command}
-use Rattle.sh_exec_command.specs.Series.{give_turn}
+use Rattle.sh_exec_turns.specs.Reading.{next_command}
+use Rattle.sh_exec_turns.specs.Series.{give_turn}
 use Rattle.sh_exec_actions.specs.declared.action.Active.{Active}
 use Rattle.sh_exec_actions.specs.declared.action.Active.TheVariants.{Acting, Calling, Evaluating, Next, Done, Leaving}
 use Rattle.sh_exec_actions.specs.declared.action.Expanded.{Expanded}
@@ -12,24 +12,24 @@ use Rattle.sh_exec_actions.specs.declared.action.Expanded.TheVariants as expande
 use Rattle.sh_exec_actions.specs.declared.action.Action.{Action}
 use Rattle.sh_exec_actions.specs.declared.action.Action.TheVariants.{Reading, Prompting, ReadInput, Expanding, ReadSubstitution, WaitSubstitution, ReadLine, Awaiting, SendSignal, ContinueJob, WaitForJob, Redirecting, Forking, Starting, ForkStage, ForkList, AssignLoopVariable, Defining, Waiting, Writing, Trapping, Ending}
 use Rattle.sh_exec_turns.specs.Acting.{collect_turn, defined, end_turn, ending, expand_turn, given_round, next, read_turn, redirect_turn, trap_turn, write_turn}
-use Rattle.sh_exec_requests.specs.Awaiting.{await_turn}
-use Rattle.sh_exec_requests.specs.LineReading.{read_line_turn}
-use Rattle.sh_exec_requests.specs.Placed.{Placed}
-use Rattle.sh_exec_requests.specs.Prompting.{prompt_turn}
-use Rattle.sh_exec_requests.specs.Continuing.{continue_turn, job_wait_turn}
-use Rattle.sh_exec_requests.specs.Signals.{after_drop, signal_turn}
-use Rattle.sh_exec_requests.specs.Waiting.{answer_turn, wait_turn}
+use Rattle.sh_exec_turns.specs.Awaiting.{await_turn}
+use Rattle.sh_exec_turns.specs.LineReading.{read_line_turn}
+use Rattle.sh_exec_turns.specs.Placed.{Placed}
+use Rattle.sh_exec_turns.specs.Prompting.{prompt_turn}
+use Rattle.sh_exec_turns.specs.Continuing.{continue_turn, job_wait_turn}
+use Rattle.sh_exec_turns.specs.Signals.{after_drop, signal_turn}
+use Rattle.sh_exec_turns.specs.Waiting.{answer_turn, wait_turn}
 use Rattle.sh_exec_turns.specs.Input.{input_turn}
 use Rattle.sh_exec_turns.specs.Traps.{drops_before, interruption, trap_before}
 use Rattle.sh_exec_shell.specs.Forks.{Turned, fork_turn, inheriting, list_turn, stage_turn, substitute_turn}
 use Rattle.sh_exec_turns.specs.Forms.{Acted, with_run, after, at_action, goes_on_reading}
-use Rattle.sh_exec_entering.specs.Moves.{move_run}
-use Rattle.sh_exec_frames.specs.Frames.{ends_shell, is_failure_ignored}
+use Rattle.sh_exec_turns.specs.Moves.{move_run}
+use Rattle.sh_exec_turns.specs.Frames.{ends_shell, is_failure_ignored}
 use Rattle.sh_exec_actions.specs.declared.form.Form.{Form}
 use Rattle.sh_exec_actions.specs.declared.form.Form.TheVariants.{Text, Input}
-use Rattle.sh_exec_entering.specs.Running.{Run, At, In, InterpreterState, active_of}
-use Rattle.sh_exec_entering.specs.Stacks.{path_of, run_in, run_of}
-use Rattle.sh_builtin_outcome.specs.declared.outcome.Leave.TheVariants as leave
+use Rattle.sh_exec_turns.specs.Running.{Run, At, In, InterpreterState, active_of}
+use Rattle.sh_exec_turns.specs.Stacks.{path_of, run_in, run_of}
+use Rattle.sh_exec_turns.specs.Leave.TheVariants as leave
 use Rattle.sh_kernel.specs.State.{KernelState}
 
 abbrev pub plain : Acted → Turned

@@ -3,19 +3,19 @@ ghost use Rattle.std.specs.Prelude.{◌≡◌, ◌++◌, ◌∷◌, [], IfOk, Li
 ghost use Rattle.sh_kernel.specs.State.{KernelState, StandsAt};
 ghost use Rattle.sh_builtin_shell.specs.Shells.{forked_shell, has_job_control};
 ghost use Rattle.sh_exec_parts.specs.Messages as messages;
-ghost use Rattle.sh_exec_command.specs.Expanding as expanding;
+ghost use Rattle.sh_exec_turns.specs.Expanding as expanding;
 ghost use Rattle.sh_exec_actions.specs.Preparing.{ahead};
 ghost use Rattle.sh_exec_actions.specs.Statuses.{unexcused};
 ghost use Rattle.sh_exec_machine.specs.Forking.{HasForked, HasLaid, fork_of, null_laid};
 ghost use Rattle.sh_exec_shell.specs.Forks.{IsTurned, begun_substitution, child_of, background_input, launched, launched_by, place_of_none, fork_turn, in_process, inherited, inheriting, inside, is_foreground, is_more, job_of, launch_by, list_by, list_turn, made_place, made_shell, program_by, stage_by, stage_from, stage_input, stage_one, stage_shell, stage_turn, stage_place, substitute_turn, substitution_by, with_child, with_job, fork_failure};
 ghost use Rattle.sh_exec_turns.specs.Groups.{behind_fork, released_fork};
-ghost use Rattle.sh_exec_entering.specs.Bodies.{body_of, stage_run};
-ghost use Rattle.sh_exec_entering.specs.Entering.{and_or_run};
-ghost use Rattle.sh_exec_entering.specs.Moves.{move_run};
-ghost use Rattle.sh_exec_entering.specs.Running.{Run};
-ghost use Rattle.sh_exec_entering.specs.Stacks.{run_in, run_of};
-ghost use Rattle.sh_exec_frames.specs.Frames.{is_failure_ignored, root_forms};
-ghost use Rattle.sh_exec_requests.specs.Waiting.{waiting};
+ghost use Rattle.sh_exec_turns.specs.Bodies.{body_of, stage_run};
+ghost use Rattle.sh_exec_turns.specs.Entering.{and_or_run};
+ghost use Rattle.sh_exec_turns.specs.Moves.{move_run};
+ghost use Rattle.sh_exec_turns.specs.Running.{Run};
+ghost use Rattle.sh_exec_turns.specs.Stacks.{run_in, run_of};
+ghost use Rattle.sh_exec_turns.specs.Frames.{is_failure_ignored, root_forms};
+ghost use Rattle.sh_exec_turns.specs.Waiting.{waiting};
 ghost use Rattle.sh_jobs.specs.Table.{free_number};
 
 use crate::interpreter::{Interpreter, interpreter_of};
@@ -27,13 +27,12 @@ use sh_exec_actions::{
     Action, Active, CommandStatus, ExpandedCommand, Finish, Launch, Move, Pending, PipelineWait,
     Stages, Substitution, ToExpand, go_ahead,
 };
-use sh_exec_command::fatal_message;
-use sh_exec_entering::{body_of, go_to, list_body, stage};
-use sh_exec_frames::Frames;
 use sh_exec_machine::{Forked, fork_process, lay_null_input};
 use sh_exec_parts::message::{cannot_fork, launch_line};
 use sh_exec_parts::{Copying, Queue};
-use sh_exec_turns::{release, settle_fork};
+use sh_exec_turns::{
+    Frames, body_of, fatal_message, go_to, list_body, release, settle_fork, stage,
+};
 use sh_kernel::Kernel;
 use sh_syntax::text::command_text;
 use sh_syntax::tree::{AndOr, Command, CompoundList};

@@ -5,9 +5,9 @@ ghost use Rattle.sh_tty.specs.Terminal.{Extends};
 ghost use Rattle.sh_exec_turns.specs.Acting.{ending};
 ghost use Rattle.sh_exec_shell.specs.Forks.{IsTurned};
 ghost use Rattle.sh_exec_shell.specs.Reduction.{at_root, reduce, shell_turn, with_root};
-ghost use Rattle.sh_exec_entering.specs.Stacks.{frames_of, path_of, run_of};
-ghost use Rattle.sh_exec_frames.specs.Frames.{framed};
-ghost use Rattle.sh_exec_entering.specs.Running.{Run, active_of, with_active};
+ghost use Rattle.sh_exec_turns.specs.Stacks.{frames_of, path_of, run_of};
+ghost use Rattle.sh_exec_turns.specs.Frames.{framed};
+ghost use Rattle.sh_exec_turns.specs.Running.{Run, active_of, with_active};
 
 use crate::dropping::drop_first;
 use crate::turn::reduce;
@@ -15,8 +15,8 @@ use sh_base::NoMemory;
 use sh_base::sequence::Text;
 use sh_builtin_shell::Shell;
 use sh_exec_actions::{Action, Active, CommandStatus, Frame};
-use sh_exec_frames::Frames;
 use sh_exec_parts::{Copying, Rest};
+use sh_exec_turns::Frames;
 use sh_kernel::Kernel;
 use sh_signal::Condition;
 use std::alloc::Global;
@@ -34,9 +34,9 @@ pub struct Interpreter {
 impl Model for Interpreter {
     ghost use Rattle.std.specs.Coded.{codes};
     ghost use Rattle.sh_vars.specs.Codes.{map_code};
-    ghost use Rattle.sh_exec_entering.specs.Codes.{run_code};
-    ghost use Rattle.sh_exec_entering.specs.Running.{InterpreterState};
-    ghost use Rattle.sh_exec_entering.specs.Stacks.{run_of};
+    ghost use Rattle.sh_exec_turns.specs.Codes.{run_code};
+    ghost use Rattle.sh_exec_turns.specs.Running.{InterpreterState};
+    ghost use Rattle.sh_exec_turns.specs.Stacks.{run_of};
     ghost use Rattle.sh_aliases.specs.contracts.alias.Alias as alias_row;
     ghost use Rattle.sh_syntax.specs.contracts.tree.Command as command_row;
 

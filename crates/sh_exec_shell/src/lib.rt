@@ -7,5 +7,6 @@ mod interpreter;
 mod turn;
 
 pub use interpreter::Interpreter;
-pub use sh_exec_requests::{heed_own_signals, pending_signal, release_own_signals};
-pub use sh_exec_turns::{drops_before, is_called, is_interrupted};
+pub use sh_exec_turns::{
+    drops_before, heed_own_signals, is_called, is_interrupted, pending_signal, release_own_signals,
+};

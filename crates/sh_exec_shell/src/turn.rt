@@ -3,14 +3,14 @@ ghost use Rattle.std.specs.Prelude.{◌≡◌, [], IfOk};
 ghost use Rattle.sh_kernel.specs.State.{KernelState, StandsAt};
 ghost use Rattle.sh_tty.specs.Terminal.{Extends};
 ghost use Rattle.sh_exec_turns.specs.Forms.{IsActed};
-ghost use Rattle.sh_exec_command.specs.Series.{give_turn};
+ghost use Rattle.sh_exec_turns.specs.Series.{give_turn};
 ghost use Rattle.sh_exec_turns.specs.Acting.{defined, expand_turn, given_round, in_forms, round_run};
 ghost use Rattle.sh_exec_shell.specs.Forks.{IsTurned, inheriting, inside};
 ghost use Rattle.sh_exec_shell.specs.Reduction.{act_at, act_behind, act_place, expanded_by, expansion, plain, reduce};
 ghost use Rattle.sh_exec_turns.specs.Traps.{trap_before};
-ghost use Rattle.sh_exec_entering.specs.Running.{Run};
-ghost use Rattle.sh_exec_entering.specs.Stacks.{run_in, run_of};
-ghost use Rattle.sh_exec_frames.specs.Frames.{is_failure_ignored};
+ghost use Rattle.sh_exec_turns.specs.Running.{Run};
+ghost use Rattle.sh_exec_turns.specs.Stacks.{run_in, run_of};
+ghost use Rattle.sh_exec_turns.specs.Frames.{is_failure_ignored};
 
 use crate::forks::{fork_turn, list_turn, stage_turn, substitute_turn};
 use crate::interpreter::Interpreter;
@@ -18,19 +18,11 @@ use sh_base::NoMemory;
 use sh_base::shared::Shared;
 use sh_builtin_shell::{Functions, Shell};
 use sh_exec_actions::{Action, Active, CommandStatus, Expanded, ForLoop, Form, Pending, ToExpand};
-use sh_exec_command::{
-    Round, assign_turn, case_turn, define_turn, give_turn, pattern_turn, redirects_turn,
-    series_turn, words_turn,
-};
-use sh_exec_entering::{enter_list, go_to};
-use sh_exec_frames::Frames;
-use sh_exec_requests::{
-    answer_turn, await_turn, continue_turn, job_wait_turn, prompt_turn, read_line_turn,
-    signal_turn, wait_turn,
-};
 use sh_exec_turns::{
-    collect_turn, end_turn, goes_on_reading, input_turn, interrupt, read, redirect_turn, settle,
-    trap, trap_before, write_turn,
+    Frames, Round, answer_turn, assign_turn, await_turn, case_turn, collect_turn, continue_turn,
+    define_turn, end_turn, enter_list, give_turn, go_to, goes_on_reading, input_turn, interrupt,
+    job_wait_turn, pattern_turn, prompt_turn, read, read_line_turn, redirect_turn, redirects_turn,
+    series_turn, settle, signal_turn, trap, trap_before, wait_turn, words_turn, write_turn,
 };
 use sh_files::Files;
 use sh_kernel::Kernel;

@@ -9,17 +9,17 @@ use Rattle.sh_exec_parts.specs.declared.message.Piece.{Piece}
 use Rattle.sh_exec_parts.specs.declared.message.Refusal.{Refusal}
 use Rattle.sh_exec_parts.specs.declared.message.Refusal.TheVariants as refusal
 use Rattle.sh_exec_parts.specs.declared.redirection.Redirection.{Redirection}
-use Rattle.sh_exec_command.specs.Assigning.{assign_turn}
-use Rattle.sh_exec_command.specs.Cases.{case_turn, pattern_turn}
-use Rattle.sh_exec_command.specs.Defining.{define_turn}
-use Rattle.sh_exec_command.specs.Expanding.{Turn, words_turn}
+use Rattle.sh_exec_forms.specs.Assigning.{assign_turn}
+use Rattle.sh_exec_forms.specs.Cases.{case_turn, pattern_turn}
+use Rattle.sh_exec_forms.specs.Defining.{define_turn}
+use Rattle.sh_exec_forms.specs.Expanding.{Turn, words_turn}
 use Rattle.sh_exec_actions.specs.Preparing.{ahead, failing, not_done}
-use Rattle.sh_exec_command.specs.Redirects.{redirects_turn}
-use Rattle.sh_exec_command.specs.Series as series
-use Rattle.sh_exec_command.specs.Series.{series_turn}
-use Rattle.sh_exec_command.specs.Reading.{next_command}
-use Rattle.sh_exec_command.specs.declared.found.Found.{Found}
-use Rattle.sh_exec_command.specs.declared.found.Found.TheVariants as found
+use Rattle.sh_exec_forms.specs.Redirects.{redirects_turn}
+use Rattle.sh_exec_forms.specs.Series as series
+use Rattle.sh_exec_forms.specs.Series.{series_turn}
+use Rattle.sh_exec_forms.specs.Reading.{next_command}
+use Rattle.sh_exec_forms.specs.Found.{Found}
+use Rattle.sh_exec_forms.specs.Found.TheVariants as found
 use Rattle.sh_exec_actions.specs.Statuses as statuses
 use Rattle.sh_exec_actions.specs.Statuses.{unexcused}
 use Rattle.sh_exec_actions.specs.declared.action.Active.{Active}
@@ -34,19 +34,19 @@ use Rattle.sh_exec_actions.specs.declared.action.Role.TheVariants as role
 use Rattle.sh_exec_actions.specs.declared.action.Substitution.{Substitution}
 use Rattle.sh_exec_actions.specs.declared.action.ToExpand.{ToExpand}
 use Rattle.sh_exec_actions.specs.declared.action.ToExpand.TheVariants.{Words, Values, Redirects, ForWords, CaseWord, CasePattern}
-use Rattle.sh_exec_command.specs.declared.series.Round.{Round}
-use Rattle.sh_exec_command.specs.declared.series.Round.TheVariants as round
+use Rattle.sh_exec_forms.specs.Round.{Round}
+use Rattle.sh_exec_forms.specs.Round.TheVariants as round
 use Rattle.sh_exec_machine.specs.Redirecting.{redirection_outcome}
 use Rattle.sh_exec_machine.specs.Transfers.{give_bytes, take_bytes}
 use Rattle.sh_exec_machine.specs.declared.transfer.ReadOutcome.{ReadOutcome}
 use Rattle.sh_exec_machine.specs.declared.transfer.ReadOutcome.TheVariants as taken
 use Rattle.sh_exec_machine.specs.declared.undone.Undone.{Undone}
-use Rattle.sh_exec_requests.specs.Writing.{written_by}
+use Rattle.sh_exec_forms.specs.Writing.{written_by}
 use Rattle.sh_exec_forms.specs.Forms.{Acted, behind_status, with_run}
-use Rattle.sh_exec_entering.specs.Entering.{items_run, list_run}
-use Rattle.sh_exec_entering.specs.Moves.{move_run}
-use Rattle.sh_exec_entering.specs.Stacks.{run_in}
-use Rattle.sh_exec_entering.specs.Running.{Run, At, In}
+use Rattle.sh_exec_forms.specs.Entering.{items_run, list_run}
+use Rattle.sh_exec_forms.specs.Moves.{move_run}
+use Rattle.sh_exec_forms.specs.Stacks.{run_in}
+use Rattle.sh_exec_forms.specs.Running.{Run, At, In}
 use Rattle.sh_exec_actions.specs.declared.form.Form.{Form}
 use Rattle.sh_exec_actions.specs.declared.form.Form.TheVariants.{Text, ForBody, Trapped}
 use Rattle.sh_files.specs.Nodes.{FileMap}

@@ -3,8 +3,8 @@ use Rattle.std.specs.Prelude.{ℕ, List, [], ◌∷◌, Bool, true, false, Optio
 use Rattle.sh_builtin_shell.specs.Shells.{has_job_control}
 use Rattle.sh_builtin_shell.specs.declared.shell.Shell.{Shell}
 use Rattle.sh_exec_machine.specs.Forking.{Forked}
-use Rattle.sh_exec_requests.specs.Signals.{after_own_signals}
-use Rattle.sh_exec_requests.specs.Waiting.{terminal_back}
+use Rattle.sh_exec_forms.specs.Signals.{after_own_signals}
+use Rattle.sh_exec_forms.specs.Waiting.{terminal_back}
 use Rattle.sh_kernel.specs.Calls.{after_set_action, after_set_foreground, after_set_group}
 use Rattle.sh_kernel.specs.State.{KernelState}
 use Rattle.sh_kernel_signals.specs.declared.member.SignalAction.TheVariants.{Ignored}

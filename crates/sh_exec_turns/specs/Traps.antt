@@ -9,12 +9,12 @@ use Rattle.sh_exec_actions.specs.declared.action.ToExpand.{ToExpand}
 use Rattle.sh_exec_actions.specs.declared.action.ToExpand.TheVariants.{Words, Values, Redirects, ForWords, CaseWord, CasePattern}
 use Rattle.sh_exec_actions.specs.declared.form.Form.{Form}
 use Rattle.sh_exec_actions.specs.declared.form.Form.TheVariants.{Interruption}
-use Rattle.sh_exec_command.specs.Expanding.{fatal}
-use Rattle.sh_exec_command.specs.Reading.{next_command}
+use Rattle.sh_exec_forms.specs.Expanding.{fatal}
+use Rattle.sh_exec_forms.specs.Reading.{next_command}
 use Rattle.sh_exec_forms.specs.Forms.{Acted, behind_status, with_run}
-use Rattle.sh_exec_entering.specs.Running.{At, In}
+use Rattle.sh_exec_forms.specs.Running.{At, In}
 use Rattle.sh_exec_forms.specs.Frames.{levels_left}
-use Rattle.sh_exec_requests.specs.Signals.{is_dropping, is_interrupt_next, pending_action}
+use Rattle.sh_exec_forms.specs.Signals.{is_dropping, is_interrupt_next, pending_action}
 use Rattle.sh_exec_parts.specs.Messages.{refusal_text}
 use Rattle.sh_exec_parts.specs.Simple.{compound_redirects}
 use Rattle.sh_exec_parts.specs.declared.message.Refusal.TheVariants as refusal

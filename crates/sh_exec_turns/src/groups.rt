@@ -5,7 +5,7 @@ ghost use Rattle.sh_kernel.specs.State.{KernelState, StandsAt};
 ghost use Rattle.sh_exec_turns.specs.Groups.{behind_fork, behind_fork_by, given_terminal, ignoring_keys, in_group, leader, released, with_control, without_control};
 
 use sh_builtin_shell::Shell;
-use sh_exec_requests::{release_own_signals, take_terminal_back};
+use sh_exec_forms::{release_own_signals, take_terminal_back};
 use sh_kernel::Kernel;
 use sh_kernel_signals::SignalAction;
 use sh_signal::Signal;

@@ -3,13 +3,12 @@ ghost use Rattle.std.specs.Prelude.{◌≡◌, IfOk};
 ghost use Rattle.sh_kernel.specs.State.{KernelState, StandsAt};
 ghost use Rattle.sh_exec_forms.specs.Forms.{IsActed};
 ghost use Rattle.sh_exec_turns.specs.Acting.{in_forms, keeps, with_undo, redirect_by, redirect_from, redirect_one, redirect_turn, undone_by};
-ghost use Rattle.sh_exec_entering.specs.Stacks.{run_in, run_of};
+ghost use Rattle.sh_exec_forms.specs.Stacks.{run_in, run_of};
 
 use sh_base::NoMemory;
 use sh_builtin_shell::Shell;
 use sh_exec_actions::{Active, ExpandedCommand, Role, go_ahead, not_done};
-use sh_exec_entering::go_to;
-use sh_exec_forms::Frames;
+use sh_exec_forms::{Frames, go_to};
 use sh_exec_machine::{Redirected, Undone, redirect};
 use sh_exec_parts::redirection::Redirection;
 use sh_kernel::{Kernel, KernelFault};

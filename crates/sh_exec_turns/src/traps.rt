@@ -1,10 +1,10 @@
 //! The traps of a shell: the one on EXIT, and those on signals.
 ghost use Rattle.std.specs.Prelude.{◌≡◌, ◌∷◌, IfOk, OnOk};
 ghost use Rattle.std.specs.Option.{is_some};
-ghost use Rattle.sh_exec_command.specs.Expanding.{fatal};
+ghost use Rattle.sh_exec_forms.specs.Expanding.{fatal};
 ghost use Rattle.sh_exec_forms.specs.Forms.{IsActed, behind_status};
-ghost use Rattle.sh_exec_entering.specs.Running.{Run};
-ghost use Rattle.sh_exec_entering.specs.Stacks.{run_in, run_of};
+ghost use Rattle.sh_exec_forms.specs.Running.{Run};
+ghost use Rattle.sh_exec_forms.specs.Stacks.{run_in, run_of};
 ghost use Rattle.sh_exec_parts.specs.Messages.{refusal_text};
 ghost use Rattle.sh_exec_parts.specs.Simple.{compound_redirects};
 ghost use Rattle.sh_exec_parts.specs.declared.message.Refusal.TheVariants as refusal;
@@ -18,12 +18,10 @@ use sh_base::sequence::Text;
 use sh_builtin_environment::copy_of_action;
 use sh_builtin_shell::Shell;
 use sh_exec_actions::{Action, Active, Form, Pending, Suspended, ToExpand};
-use sh_exec_command::fatal_message;
-use sh_exec_forms::Frames;
+use sh_exec_forms::{Frames, fatal_message, is_dropping, is_interrupt_next, pending_action};
 use sh_exec_parts::Rest;
 use sh_exec_parts::compound::compound_redirects;
 use sh_exec_parts::message::{Refusal, refused};
-use sh_exec_requests::{is_dropping, is_interrupt_next, pending_action};
 use sh_kernel::Kernel;
 use sh_signal::Condition;
 use sh_syntax::tree::Command;

@@ -9,7 +9,7 @@ use Rattle.sh_laws.proofs.RequestLists.{changes_reached, reaches_as_before}
 use Rattle.sh_laws.proofs.Reaching.{forking_reaches}
 use Rattle.sh_laws.proofs.Unmade.{unmade_stay, unmade_stay_forking}
 use Rattle.sh_exec_machine.specs.Forking.{fork_of}
-use Rattle.sh_exec_turns.specs.Groups.{behind_fork_by, given_terminal, leader}
+use Rattle.sh_exec.specs.Groups.{behind_fork_by, given_terminal, leader}
 use Rattle.sh_kernel_descriptors.specs.Machine.{MachineState}
 use Rattle.sh_kernel_processes.specs.Processes.{next_pid}
 use Rattle.sh_kernel.specs.Calls.{after_set_group}

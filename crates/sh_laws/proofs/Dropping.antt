@@ -17,14 +17,14 @@ use Rattle.sh_exec_actions.specs.Statuses.{unexcused}
 use Rattle.sh_exec_actions.specs.declared.status.CommandStatus.{CommandStatus}
 use Rattle.sh_exec_command.specs.Series.{rest_of_series}
 use Rattle.sh_exec_command.specs.Undoing.{all_restored}
-use Rattle.sh_exec_forms.proofs.Outward.{by_forms}
-use Rattle.sh_exec_forms.specs.Forms.{Acted, after, after_by, after_leave, after_status, at_action, condition_run, dropped_in_text, goes_on_reading, input_left, loop_left, onward, outward, place_left, undone, with_run}
+use Rattle.sh_exec.proofs.Outward.{by_forms}
+use Rattle.sh_exec.specs.Forms.{Acted, after, after_by, after_leave, after_status, at_action, condition_run, dropped_in_text, goes_on_reading, input_left, loop_left, onward, outward, place_left, undone, with_run}
 use Rattle.sh_exec_entering.specs.Running.{Run, At, In}
 use Rattle.sh_exec_entering.specs.Stacks.{run_in, run_of}
 use Rattle.sh_exec_frames.specs.Frames.{has_loop}
 use Rattle.sh_exec_requests.specs.Signals.{after_drop}
-use Rattle.sh_exec_shell.specs.Reduction.{drop_at, drop_first, dropped_run, rooted}
-use Rattle.sh_exec_turns.specs.Traps.{drops_before}
+use Rattle.sh_exec.specs.Reduction.{drop_at, drop_first, dropped_run, rooted}
+use Rattle.sh_exec.specs.Traps.{drops_before}
 use Rattle.sh_kernel.specs.State.{KernelState}
 use Rattle.sh_vars.specs.Environment.{Environment}
 

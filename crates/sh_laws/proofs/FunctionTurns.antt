@@ -35,8 +35,8 @@ use Rattle.sh_exec_actions.specs.declared.status.CommandStatus.{CommandStatus}
 use Rattle.sh_exec_command.specs.Defining.{define_by, define_turn}
 use Rattle.sh_exec_command.specs.Series.{rest_of_series}
 use Rattle.sh_exec_requests.specs.Reporting.{behind}
-use Rattle.sh_exec_forms.specs.Builtins.{builtin_effect, call, effect_at, evaluation, performed}
-use Rattle.sh_exec_forms.specs.Forms.{Acted, after, after_by, after_leave, after_status, at_action, condition_run, loop_left, onward, undone, with_run, dropped_in_text, goes_on_reading, input_left, place_left}
+use Rattle.sh_exec.specs.Builtins.{builtin_effect, call, effect_at, evaluation, performed}
+use Rattle.sh_exec.specs.Forms.{Acted, after, after_by, after_leave, after_status, at_action, condition_run, loop_left, onward, undone, with_run, dropped_in_text, goes_on_reading, input_left, place_left}
 use Rattle.sh_builtin_environment.specs.TrapMaps.{action_of}
 use Rattle.sh_signal.specs.declared.condition.Condition.TheVariants.{Exit}
 use Rattle.sh_exec_frames.specs.Frames.{has_loop, last_for, levels_left}
@@ -49,7 +49,7 @@ use Rattle.sh_exec_machine.specs.declared.transfer.ReadOutcome.TheVariants as ta
 use Rattle.sh_exec_parts.specs.Simple.{Opened}
 use Rattle.sh_exec_parts.specs.declared.message.Piece.{Piece}
 use Rattle.sh_exec_parts.specs.declared.redirection.Redirection.{Redirection}
-use Rattle.sh_exec_turns.specs.Acting.{after_collection, collect_by, collect_end, collect_from, collect_turn, end_turn, expand_turn, next, redirect_from, redirect_one, redirect_turn, trap_by, trap_turn, with_written, write_turn}
+use Rattle.sh_exec.specs.Acting.{after_collection, collect_by, collect_end, collect_from, collect_turn, end_turn, expand_turn, next, redirect_from, redirect_one, redirect_turn, trap_by, trap_turn, with_written, write_turn}
 use Rattle.sh_exec_requests.specs.Placed.{Placed, at_place}
 use Rattle.sh_builtin_jobs.specs.declared.run.KillAsk.{KillAsk}
 use Rattle.sh_exec_requests.specs.Awaiting.{all_by, await_by, await_ended, await_turn, operand_by, without_target}
@@ -66,7 +66,7 @@ use Rattle.sh_jobs.specs.States.{state_of}
 use Rattle.sh_jobs.specs.declared.state.JobState.{JobState}
 use Rattle.sh_jobs.specs.declared.state.JobState.TheVariants.{Running, Suspended}
 use Rattle.sh_jobs.specs.declared.state.JobState.TheVariants as state
-use Rattle.sh_exec_turns.specs.Traps.{interrupted, interruption, shell_before, trap_before}
+use Rattle.sh_exec.specs.Traps.{interrupted, interruption, shell_before, trap_before}
 use Rattle.sh_kernel.specs.Calls.{after_take_signal}
 use Rattle.sh_signal.specs.declared.signal.Signal.{Signal}
 use Rattle.sh_builtin_wait.specs.Waits.{processes_of}
@@ -76,9 +76,9 @@ use Rattle.sh_builtin_wait.specs.declared.run.OperandWait.{OperandWait}
 use Rattle.sh_builtin_wait.specs.declared.target.WaitTarget.{WaitTarget}
 use Rattle.sh_builtin_wait.specs.declared.target.WaitTarget.TheVariants as target
 use Rattle.sh_exec_requests.specs.LineReading.{line_by, line_ended, line_goes_on, line_read_by, most_read, read_line_turn}
-use Rattle.sh_exec_shell.specs.Forks.{background_input, begun_substitution, fork_turn, is_foreground, is_more, launch_by, list_by, list_turn, made_shell, program_by, stage_by, stage_from, stage_input, stage_one, stage_shell, stage_turn, substitute_turn, substitution_by}
-use Rattle.sh_exec_turns.specs.Groups.{behind_fork, released_fork}
-use Rattle.sh_exec_shell.specs.Reduction.{act_at, act_behind, act_place, expanded_by, reduce}
+use Rattle.sh_exec.specs.Forks.{background_input, begun_substitution, fork_turn, is_foreground, is_more, launch_by, list_by, list_turn, made_shell, program_by, stage_by, stage_from, stage_input, stage_one, stage_shell, stage_turn, substitute_turn, substitution_by}
+use Rattle.sh_exec.specs.Groups.{behind_fork, released_fork}
+use Rattle.sh_exec.specs.Reduction.{act_at, act_behind, act_place, expanded_by, reduce}
 use Rattle.sh_kernel.specs.State.{KernelState}
 use Rattle.sh_kernel_descriptors.specs.declared.descriptor.DescriptorRef.TheVariants.{Aside, Number}
 use Rattle.sh_syntax.specs.declared.tree.AndOr.{AndOr}
@@ -98,7 +98,7 @@ use Rattle.sh_builtin_jobs.specs.Listing.{jobs_of, job_lines}
 use Rattle.sh_builtin_jobs.specs.declared.listing.JobsCommand.{JobsCommand}
 use Rattle.sh_builtin_shell.specs.Shells.{up_to_date}
 use Rattle.sh_exec_requests.specs.Prompting.{behind_job, is_waiting, job_to_tell, prompt_by, prompt_of, prompt_turn, stays, with_job_told}
-use Rattle.sh_exec_turns.specs.Input.{input_taken, input_turn}
+use Rattle.sh_exec.specs.Input.{input_taken, input_turn}
 use Rattle.sh_jobs.specs.declared.line.JobForm.TheVariants.{Short}
 
 -- ---- some functions less, and one more

@@ -24,8 +24,8 @@ use Rattle.sh_stock.specs.declared.asking.Ask.TheVariants as ask
 use Rattle.sh_laws.specs.Requests.{directory_of, made_number, number_of}
 use Rattle.sh_laws.proofs.TurnRequests.{IsForked, IsKept, give_keeps, take_keeps}
 use Rattle.sh_laws.proofs.TurnSteps.{shell_keeps, own_signals_keep}
-use Rattle.sh_exec_shell.specs.Forks as shell
-use Rattle.sh_exec_shell.specs.Reduction.{shell_turn}
+use Rattle.sh_exec.specs.Forks as shell
+use Rattle.sh_exec.specs.Reduction.{shell_turn}
 use Rattle.sh_kernel.specs.Calls.{start_call}
 
 -- a process that was made is called by the number that its shell has

@@ -24,10 +24,10 @@ use Rattle.sh_exec_actions.specs.declared.action.ForLoop.{ForLoop}
 use Rattle.sh_exec_actions.specs.declared.action.Report.{Report}
 use Rattle.sh_exec_actions.specs.declared.action.Undo.{Undo}
 use Rattle.sh_exec_entering.proofs.Entered.{entered_with}
-use Rattle.sh_exec_forms.specs.Builtins.{builtin_effect, call, effect_at, evaluation, performed}
+use Rattle.sh_exec.specs.Builtins.{builtin_effect, call, effect_at, evaluation, performed}
 use Rattle.sh_exec_requests.specs.Reporting.{at_completion, behind, output_of, reported, said}
 use Rattle.sh_exec_entering.specs.Entering.{items_run, list_run, pipeline_run, with_others}
-use Rattle.sh_exec_forms.specs.Forms.{Acted, after, after_by, after_call, after_leave, after_status, after_text, at_action, behind_condition, branch, condition_run, connected_run, goes_on, loop_left, onward, otherwise, returned, runs, undone, ended_within, exits_on_error, is_failure, left_within, within, within_run, behind_status, dropped_in_text, goes_on_reading, input_left, place_left}
+use Rattle.sh_exec.specs.Forms.{Acted, after, after_by, after_call, after_leave, after_status, after_text, at_action, behind_condition, branch, condition_run, connected_run, goes_on, loop_left, onward, otherwise, returned, runs, undone, ended_within, exits_on_error, is_failure, left_within, within, within_run, behind_status, dropped_in_text, goes_on_reading, input_left, place_left}
 use Rattle.sh_exec_frames.specs.Frames.{ends_action, may_return, has_loop, is_failure_ignored, last_for, levels_left}
 use Rattle.sh_exec_entering.specs.Running.{Run, At, In}
 use Rattle.sh_exec_actions.specs.declared.form.Branches.{Branches}

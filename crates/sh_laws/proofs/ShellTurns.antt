@@ -39,7 +39,7 @@ use Rattle.sh_exec_command.specs.declared.series.Round.TheVariants as round
 use Rattle.sh_exec_entering.specs.Entering.{form_entry, form_of_command, form_run, items_run, list_run}
 use Rattle.sh_exec_entering.specs.Moves.{move_run}
 use Rattle.sh_exec_entering.proofs.Entered.{list_is}
-use Rattle.sh_exec_forms.specs.Forms.{Acted, behind_status, with_run, goes_on_reading, at_action}
+use Rattle.sh_exec.specs.Forms.{Acted, behind_status, with_run, goes_on_reading, at_action}
 use Rattle.sh_exec_frames.specs.Frames.{ends_shell, is_failure_ignored, levels_left}
 use Rattle.sh_exec_actions.specs.declared.beginning.Beginning.{Beginning}
 use Rattle.sh_exec_actions.specs.declared.form.Form.{Form}
@@ -55,7 +55,7 @@ use Rattle.sh_exec_machine.specs.declared.undone.Undone.{Undone}
 use Rattle.sh_exec_parts.specs.declared.message.Piece.{Piece}
 use Rattle.sh_exec_parts.specs.declared.redirection.Redirection.{Redirection}
 use Rattle.sh_exec_parts.specs.declared.simple.Assignment.{Assignment}
-use Rattle.sh_exec_turns.specs.Acting.{after_collection, collect_by, collect_end, collect_from, collect_turn, end_turn, ending_by, expand_turn, keeps, next, read_turn, redirect_by, redirect_from, redirect_one, redirect_turn, round_run, trap_by, trap_turn, with_undo, with_written, without_trap, write_turn}
+use Rattle.sh_exec.specs.Acting.{after_collection, collect_by, collect_end, collect_from, collect_turn, end_turn, ending_by, expand_turn, keeps, next, read_turn, redirect_by, redirect_from, redirect_one, redirect_turn, round_run, trap_by, trap_turn, with_undo, with_written, without_trap, write_turn}
 use Rattle.sh_exec_actions.specs.declared.action.PipelineWait.{PipelineWait}
 use Rattle.sh_builtin_outcome.specs.declared.outcome.Continuation.{Continuation}
 use Rattle.sh_builtin_outcome.specs.declared.outcome.Continuation.TheVariants as continuation
@@ -80,7 +80,7 @@ use Rattle.sh_builtin_jobs.specs.declared.run.KillStep.TheVariants as kill
 use Rattle.sh_exec_requests.specs.Awaiting.{all_by, await_by, await_ended, await_turn, operand_by, said_so_far, step_place, without_target}
 use Rattle.sh_exec_requests.specs.Signals as signals
 use Rattle.sh_exec_requests.specs.Signals.{after_sending, is_reached, pending_signal, signal_turn, after_drop}
-use Rattle.sh_exec_turns.specs.Traps.{interrupted, interruption, shell_before, trap_before, drops_before}
+use Rattle.sh_exec.specs.Traps.{interrupted, interruption, shell_before, trap_before, drops_before}
 use Rattle.sh_kernel.specs.Calls.{after_take_signal}
 use Rattle.sh_signal.specs.Signals.{number_of}
 use Rattle.sh_signal.specs.declared.signal.Signal.{Signal}
@@ -92,9 +92,9 @@ use Rattle.sh_builtin_wait.specs.declared.run.WaitStep.{WaitStep}
 use Rattle.sh_builtin_wait.specs.declared.run.WaitStep.TheVariants.{Over, Waits}
 use Rattle.sh_builtin_shell.specs.Shells.{after_suspension, has_job_control, up_to_date, is_interactive}
 use Rattle.sh_exec_requests.specs.LineReading.{fields_given, line_by, line_ended, line_goes_on, line_read_by, most_read, read_line_turn}
-use Rattle.sh_exec_shell.specs.Forks.{background_input, begun_substitution, Turned, fork_failure, fork_turn, inherited, is_foreground, is_more, launch_by, list_by, list_turn, made_place, program_by, stage_by, stage_from, stage_input, stage_one, stage_place, stage_turn, substitute_turn, substitution_by, place_of_none, launched_by}
-use Rattle.sh_exec_turns.specs.Groups.{behind_fork, released}
-use Rattle.sh_exec_shell.specs.Reduction.{act_at, act_behind, act_place, at_root, expanded_by, reduce, shell_turn, drop_at, drop_first, dropped_run, rooted, turn_from}
+use Rattle.sh_exec.specs.Forks.{background_input, begun_substitution, Turned, fork_failure, fork_turn, inherited, is_foreground, is_more, launch_by, list_by, list_turn, made_place, program_by, stage_by, stage_from, stage_input, stage_one, stage_place, stage_turn, substitute_turn, substitution_by, place_of_none, launched_by}
+use Rattle.sh_exec.specs.Groups.{behind_fork, released}
+use Rattle.sh_exec.specs.Reduction.{act_at, act_behind, act_place, at_root, expanded_by, reduce, shell_turn, drop_at, drop_first, dropped_run, rooted, turn_from}
 use Rattle.sh_exec_machine.specs.Waits.{wait_status}
 use Rattle.sh_files.specs.Nodes.{FileMap}
 use Rattle.sh_kernel.specs.State.{KernelState}
@@ -118,10 +118,10 @@ use Rattle.sh_laws.proofs.SettledForms.{Holds, Settled, after_settled, at_action
 use Rattle.sh_exec_requests.specs.Prompting.{behind_job, is_waiting, job_to_tell, prompt_by, prompt_of, prompt_turn, stays, with_job_told, input_action}
 use Rattle.sh_exec_actions.specs.Beginnings.{aliases_of, begun, not_begun}
 use Rattle.sh_aliases.specs.Aliases.{AliasTable}
-use Rattle.sh_exec_turns.specs.Input.{behind_blank, ends_line, input_read, input_run, input_taken, input_turn}
+use Rattle.sh_exec.specs.Input.{behind_blank, ends_line, input_read, input_run, input_taken, input_turn}
 use Rattle.sh_exec_command.specs.declared.found.InputFound.{InputFound}
 use Rattle.sh_exec_command.specs.declared.found.InputFound.TheVariants as input
-use Rattle.sh_exec_shell.proofs.Frames.{whole}
+use Rattle.sh_exec.proofs.Frames.{whole}
 use Rattle.sh_exec_entering.specs.Stacks.{path_of, run_in, run_of}
 use Rattle.sh_builtin_jobs.specs.Listing.{job_lines}
 use Rattle.sh_jobs.specs.declared.line.JobForm.TheVariants.{Short}

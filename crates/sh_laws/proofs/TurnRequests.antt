@@ -25,7 +25,7 @@ use Rattle.sh_kernel_signals.specs.declared.member.SignalAction.{SignalAction}
 use Rattle.sh_kernel_signals.specs.declared.member.SignalAction.TheVariants.{Ignored}
 use Rattle.sh_signal.specs.declared.signal.Signal.{Signal}
 use Rattle.sh_signal.specs.declared.signal.Signal.TheVariants.{Interrupt, Quit}
-use Rattle.sh_exec_turns.specs.Groups.{behind_fork_by, given_terminal, leader}
+use Rattle.sh_exec.specs.Groups.{behind_fork_by, given_terminal, leader}
 use Rattle.sh_kernel.specs.State.{KernelState}
 use Rattle.sh_laws.specs.Requests.{IsFrom}
 

@@ -35,11 +35,11 @@ use Rattle.sh_exec_machine.specs.Transfers.{take_bytes, Giving, give_bytes}
 use Rattle.sh_exec_machine.specs.Waits.{wait_status}
 use Rattle.sh_exec_machine.specs.declared.transfer.ReadOutcome.{ReadOutcome}
 use Rattle.sh_exec_machine.specs.declared.transfer.ReadOutcome.TheVariants as taken
-use Rattle.sh_exec_turns.specs.Acting.{collect_by, collect_end, collect_from, collect_turn, after_collection, end_turn, expand_turn, keeps, next, redirect_from, redirect_one, redirect_turn, trap_by, trap_turn, with_written, write_turn}
+use Rattle.sh_exec.specs.Acting.{collect_by, collect_end, collect_from, collect_turn, after_collection, end_turn, expand_turn, keeps, next, redirect_from, redirect_one, redirect_turn, trap_by, trap_turn, with_written, write_turn}
 use Rattle.sh_exec_requests.specs.Placed.{Placed, at_place}
 use Rattle.sh_builtin_jobs.specs.declared.run.KillAsk.{KillAsk}
 use Rattle.sh_exec_requests.specs.Signals.{after_sending, after_trap_in, after_trap_set, after_traps, after_traps_in, pending_signal, signal_action, signal_turn, after_drop, after_own_signals, after_release, after_releases, own_action, own_ignored, released_action}
-use Rattle.sh_exec_turns.specs.Traps.{interrupted, interruption, shell_before, trap_before, drops_before}
+use Rattle.sh_exec.specs.Traps.{interrupted, interruption, shell_before, trap_before, drops_before}
 use Rattle.sh_jobs.specs.declared.fault.JobFault.{JobFault}
 use Rattle.sh_kernel_signals.specs.Sets.{has}
 use Rattle.sh_kernel_signals.specs.declared.set.SignalSet.{SignalSet}
@@ -54,15 +54,15 @@ use Rattle.sh_builtin_wait.specs.declared.run.OperandWait.{OperandWait}
 use Rattle.sh_builtin_wait.specs.declared.target.WaitTarget.{WaitTarget}
 use Rattle.sh_builtin_wait.specs.declared.target.WaitTarget.TheVariants as target
 use Rattle.sh_exec_requests.specs.LineReading.{line_by, line_ended, line_goes_on, line_read_by, most_read, read_line_turn}
-use Rattle.sh_exec_shell.specs.Forks.{Turned, background_input, begun_substitution, fork_turn, inherited, is_foreground, is_more, launch_by, list_by, list_turn, made_shell, program_by, stage_by, stage_from, stage_input, stage_one, stage_shell, stage_turn, substitute_turn, substitution_by}
-use Rattle.sh_exec_turns.specs.Groups.{behind_fork, behind_fork_by, released}
+use Rattle.sh_exec.specs.Forks.{Turned, background_input, begun_substitution, fork_turn, inherited, is_foreground, is_more, launch_by, list_by, list_turn, made_shell, program_by, stage_by, stage_from, stage_input, stage_one, stage_shell, stage_turn, substitute_turn, substitution_by}
+use Rattle.sh_exec.specs.Groups.{behind_fork, behind_fork_by, released}
 use Rattle.sh_exec_requests.specs.Reporting.{behind}
-use Rattle.sh_exec_forms.specs.Builtins.{builtin_effect, builtin_machine, call, effect_at, machine_at, evaluation, performed}
-use Rattle.sh_exec_forms.specs.Forms.{Acted, with_run, after, after_by, after_status, after_leave, loop_left, onward, condition_run, at_action, undone, dropped_in_text, goes_on_reading, input_left, place_left}
+use Rattle.sh_exec.specs.Builtins.{builtin_effect, builtin_machine, call, effect_at, machine_at, evaluation, performed}
+use Rattle.sh_exec.specs.Forms.{Acted, with_run, after, after_by, after_status, after_leave, loop_left, onward, condition_run, at_action, undone, dropped_in_text, goes_on_reading, input_left, place_left}
 use Rattle.sh_builtin_environment.specs.TrapMaps.{action_of}
 use Rattle.sh_signal.specs.declared.condition.Condition.TheVariants.{Caught, Exit}
 use Rattle.sh_exec_frames.specs.Frames.{has_loop, is_failure_ignored, last_for, levels_left}
-use Rattle.sh_exec_shell.specs.Reduction.{act_at, act_behind, act_place, expanded_by, reduce, shell_turn, drop_at, drop_first, dropped_run, rooted}
+use Rattle.sh_exec.specs.Reduction.{act_at, act_behind, act_place, expanded_by, reduce, shell_turn, drop_at, drop_first, dropped_run, rooted}
 use Rattle.sh_exec_entering.specs.Running.{InterpreterState, Run, At, In, active_of}
 use Rattle.sh_exec_actions.specs.declared.form.Form.{Form}
 use Rattle.sh_exec_actions.specs.declared.form.Form.TheVariants.{Text, Input, Commands, Joined, Negated, Restoring, If, Condition, Body, ForBody, Call, Evaluation, Trapped, Interruption, FailuresIgnored}
@@ -97,7 +97,7 @@ use Rattle.sh_jobs.specs.declared.state.JobState.{JobState}
 use Rattle.sh_jobs.specs.declared.state.JobState.TheVariants.{Running, Suspended}
 use Rattle.sh_jobs.specs.declared.state.JobState.TheVariants as state
 use Rattle.sh_exec_requests.specs.Prompting.{behind_job, is_waiting, job_to_tell, prompt_by, prompt_of, prompt_turn, stays, with_job_told}
-use Rattle.sh_exec_turns.specs.Input.{input_taken, input_turn}
+use Rattle.sh_exec.specs.Input.{input_taken, input_turn}
 use Rattle.sh_jobs.specs.declared.line.JobForm.TheVariants.{Short}
 use Rattle.sh_exec_entering.specs.Stacks.{path_of, run_in, run_of}
 use Rattle.sh_kernel_signals.specs.declared.member.SignalAction.TheVariants as does

@@ -4,7 +4,7 @@ ghost use Rattle.sh_exec.specs.Turns.{turn};
 ghost use Rattle.sh_exec.specs.Tasks.{pid_of};
 ghost use Rattle.sh_exec.specs.declared.task.Task.{Task};
 ghost use Rattle.sh_exec_entering.specs.Running.{InterpreterState};
-ghost use Rattle.sh_exec_shell.specs.Reduction.{shell_turn};
+ghost use Rattle.sh_exec.specs.Reduction.{shell_turn};
 ghost use Rattle.sh_files.specs.Nodes.{FileMap};
 ghost use Rattle.sh_laws.specs.BeforeAction.{ActedStands, AreBeforeActions, ChildStands, HaveActions, InterpreterStands, IsBeforeAction, MadeStands, TaskStands, TasksStand};
 ghost use Rattle.sh_laws.specs.Forking.{UnmadeReachNothing};

@@ -1,7 +1,7 @@
 //! Worlds that are kept on the way of a schedule, so that the next one need not begin at the start.
 ghost use Rattle.std.specs.Prelude.{◌≡◌, ℕ, List, IfOk, IfSome, filter, length, nat_lt};
-ghost use Rattle.sh_exec.specs.State.{State};
-ghost use Rattle.sh_world.specs.World.{WorldStands};
+ghost use Rattle.sh_schedules_outcomes.specs.State.{State};
+ghost use Rattle.sh_schedules_outcomes.specs.World.{WorldStands};
 ghost use Rattle.sh_schedules_outcomes.specs.Shell.{shell};
 ghost use Rattle.sh_schedules.specs.Checkpoints.{AreCheckpoints, IsCheckpoint};
 ghost use Rattle.sh_schedules.specs.Trying.{HasTaken};
@@ -9,8 +9,8 @@ ghost use Rattle.sh_schedules.specs.declared.path.Turn.{Turn as PathTurn};
 
 use crate::turns::{Standing, first_standing};
 use sh_base::NoMemory;
+use sh_schedules_outcomes::World;
 use sh_stock::{CopyStock, Stock};
-use sh_world::World;
 
 /// How many worlds are kept at most. If there is one more, the one that has taken the fewest turns goes: it is the one that is wanted last,
 /// and the way there is the shortest.

@@ -2,18 +2,16 @@
 ghost use Rattle.std.specs.Prelude.{◌≡◌, ◌+◌, ◌<◌, ◌≤◌, ◌^◌, ℕ, IfErr, IfOk, Ok, length};
 ghost use Rattle.sh_files.specs.Image.{read_image};
 ghost use Rattle.sh_files.specs.Nodes.{FileMap};
-ghost use Rattle.sh_world.specs.World.{WorldStands};
-ghost use Rattle.sh_exec.specs.State.{State, start};
+ghost use Rattle.sh_schedules_outcomes.specs.World.{WorldStands};
+ghost use Rattle.sh_schedules_outcomes.specs.State.{State, start};
 ghost use Rattle.sh_schedules.specs.Parting.{is_same_turn, mover, parting, parting_by};
 ghost use Rattle.sh_schedules_outcomes.specs.Refusals.{IsRefusal};
 ghost use Rattle.sh_schedules_outcomes.specs.Shell.{shell};
 
 use crate::turns::{runnable, turn_of};
 use sh_base::NoMemory;
-use sh_exec::{Event, Settings};
-use sh_schedules_outcomes::{ExploreFault, begin};
+use sh_schedules_outcomes::{Event, ExploreFault, Settings, World, begin};
 use sh_stock::Stock;
-use sh_world::World;
 use std::alloc::Global;
 
 /// The first turn that two schedules give to different processes.

@@ -2,9 +2,9 @@
 ghost use Rattle.std.specs.Prelude.{◌≡◌, ℕ, IfErr, IfOk, Ok, map};
 ghost use Rattle.sh_files.specs.Image.{read_image};
 ghost use Rattle.sh_files.specs.Nodes.{FileMap};
-ghost use Rattle.sh_world.specs.World.{WorldStands};
-ghost use Rattle.sh_exec.specs.State.{State, start};
-ghost use Rattle.sh_exec.specs.declared.event.Event.TheVariants.{Run};
+ghost use Rattle.sh_schedules_outcomes.specs.World.{WorldStands};
+ghost use Rattle.sh_schedules_outcomes.specs.State.{State, start};
+ghost use Rattle.sh_schedules_outcomes.specs.Event.TheVariants.{Run};
 ghost use Rattle.sh_schedules_outcomes.specs.Found.{IsRetraced};
 ghost use Rattle.sh_schedules.specs.Paths.{events_of};
 ghost use Rattle.sh_schedules_outcomes.specs.Refusals.{IsRefusal};
@@ -14,10 +14,8 @@ use crate::exploring::events_of;
 use crate::path::Turn;
 use crate::turns::replay;
 use sh_base::NoMemory;
-use sh_exec::Settings;
-use sh_schedules_outcomes::{ExploreFault, Found, begin, outcome_of};
+use sh_schedules_outcomes::{ExploreFault, Found, Settings, World, begin, outcome_of};
 use sh_stock::Stock;
-use sh_world::World;
 use std::alloc::Global;
 
 /// A turn at a place, with no other to try.

@@ -1,8 +1,8 @@
 -- The list of all schedules has each schedule, and nothing else.
 use Rattle.std.proofs.Common.{◌≡◌, ℕ, zero, suc, ◌-◌, ◌<◌, ◌≤◌, ◌⊎◌, inl, inr, Bool, true, false, nat_eq, Option, Some, None, List, [], ◌∷◌, ◌++◌, length, refl, sym, ap, ◌∙◌, subst, arith, if◌then◌else◌}
 use Rattle.std.proofs.lemmas.Bool.{eqb-true, eqb-false, ltb-true}
-use Rattle.sh_exec.specs.declared.event.Event.{Event}
-use Rattle.sh_exec.specs.declared.event.Event.TheVariants.{Run, Next, Key}
+use Rattle.sh_world.specs.Event.{Event}
+use Rattle.sh_world.specs.Event.TheVariants.{Run, Next, Key}
 use Rattle.sh_schedules_outcomes.specs.Schedules.{IsSchedule, Machine, cost, cost_by, last_place, place_of}
 use Rattle.sh_schedules_outcomes.specs.Choices.{In, begun, begun_by, choices, choices_by, of_choices, others_below, places_below, schedules}
 

@@ -3,7 +3,7 @@ use Rattle.std.proofs.Common.{◌≡◌, ℕ, ◌<◌, ◌⊎◌, inl, inr, List
 use Rattle.std.proofs.lemmas.Bool.{le-ltb, ltb-false, ltb-true, lt-ltb}
 use Rattle.std.proofs.lemmas.Bool.Decides.{eqb_tells}
 use Rattle.std.specs.Cmp.{IsStrictWeakOrder}
-use Rattle.sh_exec.specs.declared.event.Event.{Event}
+use Rattle.sh_world.specs.Event.{Event}
 use Rattle.sh_schedules_outcomes.specs.Preference.{comes_before, first_by, place_in, precedes}
 use Rattle.sh_schedules_outcomes.specs.Found.{is_before}
 

@@ -1,6 +1,6 @@
 -- What is known of the outcomes that were found, as a schedule is counted.
 use Rattle.std.proofs.Common.{◌≡◌, ◌≢◌, ℕ, false, zero, suc, ◌+◌, ◌<◌, ◌≤◌, ◌^◌, ◌⊎◌, inl, inr, List, [], ◌∷◌, ◌++◌, length, refl, sym, ap, ◌∙◌, subst, arith, get_or, set, length-append}
-use Rattle.sh_exec.specs.declared.event.Event.{Event}
+use Rattle.sh_world.specs.Event.{Event}
 use Rattle.sh_schedules_outcomes.specs.Schedules.{IsSchedule, Machine, end_of, preemptions}
 use Rattle.sh_schedules_outcomes.specs.Choices.{In}
 use Rattle.sh_schedules_outcomes.specs.Found.{AreDistinct, AreFound, AreShown, HaveNoneBefore, IsAgain, IsFound, IsNumber, IsPlace, IsPreferred, IsSum, IsTally, Joined, Noted, Shows, counted}

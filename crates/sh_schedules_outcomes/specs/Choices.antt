@@ -1,7 +1,7 @@
 -- The order in which the schedules are tried: in each turn the process of the last turn comes first, where it can go on.
 use Rattle.std.specs.Prelude.{◌≡◌, ◌⊎◌, ℕ, zero, suc, ◌-◌, List, [], ◌∷◌, ◌++◌, length, map, Option, Some, None, if◌then◌else◌, nat_eq}
-use Rattle.sh_exec.specs.declared.event.Event.{Event}
-use Rattle.sh_exec.specs.declared.event.Event.TheVariants.{Run}
+use Rattle.sh_world.specs.Event.{Event}
+use Rattle.sh_world.specs.Event.TheVariants.{Run}
 use Rattle.sh_schedules_outcomes.specs.Schedules.{Machine, cost, last_place}
 
 -- one of a list

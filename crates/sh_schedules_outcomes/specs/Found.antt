@@ -1,6 +1,6 @@
 -- The outcomes that were found, as schedules are counted to them.
 use Rattle.std.specs.Prelude.{◌≡◌, ◌≢◌, ℕ, zero, suc, ◌+◌, ◌-◌, min, ◌<◌, ◌^◌, ◌⊎◌, List, [], ◌∷◌, length, Bool, true, false}
-use Rattle.sh_exec.specs.declared.event.Event.{Event}
+use Rattle.sh_world.specs.Event.{Event}
 use Rattle.sh_schedules_outcomes.specs.Schedules.{IsSchedule, Machine, end_of, preemptions}
 use Rattle.sh_schedules_outcomes.specs.Preference.{comes_before}
 use Rattle.sh_schedules_outcomes.specs.declared.found.Found.{Found}

@@ -1,7 +1,7 @@
 -- Which of two schedules with one outcome is kept: the one with fewer preemptions, and of two with as many the first by its places.
 use Rattle.std.specs.Prelude.{ℕ, List, [], ◌∷◌, Bool, true, false, if◌then◌else◌, nat_eq, nat_lt}
-use Rattle.sh_exec.specs.declared.event.Event.{Event}
-use Rattle.sh_exec.specs.declared.event.Event.TheVariants.{Run, Next, Key}
+use Rattle.sh_world.specs.Event.{Event}
+use Rattle.sh_world.specs.Event.TheVariants.{Run, Next, Key}
 
 -- the place that an event names
 abbrev pub place_in : Event → ℕ

@@ -1,7 +1,7 @@
 -- The schedules of a machine whose processes take turns, and how many of the turns are preemptions.
 use Rattle.std.specs.Prelude.{◌≡◌, ℕ, ◌+◌, ◌<◌, ◌≤◌, ◌⊎◌, List, [], ◌∷◌, length, Option, Some, None, if◌then◌else◌, nat_eq, ◌==◌, position}
-use Rattle.sh_exec.specs.declared.event.Event.{Event}
-use Rattle.sh_exec.specs.declared.event.Event.TheVariants.{Run, Next, Key}
+use Rattle.sh_world.specs.Event.{Event}
+use Rattle.sh_world.specs.Event.TheVariants.{Run, Next, Key}
 
 -- a machine: what an event makes of a state, which processes can take a turn there, and which one took the last turn
 pub record Machine (A : Type 0) : Type 0 where

@@ -4,10 +4,10 @@ use Rattle.sh_files.specs.Writing.{image_text}
 use Rattle.sh_kernel_processes.specs.declared.process.Process.{Process}
 use Rattle.sh_kernel_processes.specs.declared.process.Status.{Status}
 use Rattle.sh_stock.specs.Asking.{Meaning}
-use Rattle.sh_exec.specs.State.{State, ended_of, files_of, runnables, step, terminal_of}
-use Rattle.sh_exec.specs.Tasks.{pid_of}
-use Rattle.sh_exec.specs.TurnActions.{turn_action_of}
-use Rattle.sh_exec.specs.declared.task.Task.{Task}
+use Rattle.sh_world.specs.State.{State, ended_of, files_of, runnables, step, terminal_of}
+use Rattle.sh_world.specs.Tasks.{pid_of}
+use Rattle.sh_world.specs.TurnActions.{turn_action_of}
+use Rattle.sh_world.specs.Task.{Task}
 use Rattle.sh_schedules_outcomes.specs.Schedules.{Machine}
 use Rattle.sh_schedules_outcomes.specs.declared.outcome.Ending.{Ending}
 use Rattle.sh_schedules_outcomes.specs.declared.outcome.Ending.TheVariants.{Ended, Stuck, Cut}

@@ -3,16 +3,15 @@ ghost use Rattle.std.specs.Prelude.{◌≡◌, IfErr, IfOk, Ok};
 ghost use Rattle.sh_files.specs.Image.{read_image};
 ghost use Rattle.sh_files.specs.Nodes.{FileMap};
 ghost use Rattle.sh_world.specs.World.{WorldStands};
-ghost use Rattle.sh_exec.specs.State.{start};
+ghost use Rattle.sh_world.specs.State.{start};
 ghost use Rattle.sh_schedules_outcomes.specs.Refusals.{IsRefusal};
 
 use crate::fault::{ExploreFault, refusal};
 use sh_base::NoMemory;
 use sh_base::sequence::{Sequence, Text, copies_of};
-use sh_exec::{Settings, Source};
 use sh_files::Files;
 use sh_stock::Stock;
-use sh_world::World;
+use sh_world::{Settings, Source, World};
 use std::alloc::Global;
 
 /// A copy of a text.

@@ -7,7 +7,7 @@ ghost use Rattle.sh_schedules_outcomes.specs.Preference.{comes_before, place_in,
 use crate::outcome::Outcome;
 use sh_base::NoMemory;
 use sh_base::sequence::Sequence;
-use sh_exec::Event;
+use sh_world::Event;
 use std::cmp::Ordering;
 
 /// An outcome, and the schedules that come to it.

@@ -12,3 +12,4 @@ pub use fault::ExploreFault;
 pub use found::{Found, join, note, sort};
 pub use look::outcome_of;
 pub use outcome::{Ending, Outcome, Waiter};
+pub use sh_world::{Event, Settings, TurnAction, World};

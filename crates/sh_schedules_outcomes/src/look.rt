@@ -2,7 +2,7 @@
 ghost use Rattle.std.specs.Prelude.{◌≡◌, IfOk, map};
 ghost use Rattle.sh_files.specs.Writing.{image_text};
 ghost use Rattle.sh_world.specs.World.{WorldStands};
-ghost use Rattle.sh_exec.specs.State.{State, ended_of, files_of, runnables};
+ghost use Rattle.sh_world.specs.State.{State, ended_of, files_of, runnables};
 ghost use Rattle.sh_schedules_outcomes.specs.Shell.{ending_by, outcome_of, statuses_in, waiter_of, waiters_by};
 
 use crate::outcome::{Ending, Outcome, Waiter};

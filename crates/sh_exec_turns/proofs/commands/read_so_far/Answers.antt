@@ -1,5 +1,5 @@
 use Rattle.std.proofs.Common.{refl, sym, ap, ◌∙◌}
-use Rattle.sh_exec_entering.specs.Stacks.{run_in}
+use Rattle.sh_exec_forms.specs.Stacks.{run_in}
 use Rattle.sh_exec_turns.specs.Input.{input_run}
 use Rattle.sh_exec_turns.proofs.commands.read_so_far.Goals as goal
 

@@ -2,8 +2,8 @@ use Rattle.std.proofs.Common.{◌≡◌, Ok, Result, sym, ◌∙◌, subst}
 use Rattle.sh_files.specs.Nodes.{FileMap}
 use Rattle.sh_files_image.specs.declared.image_fault.ImageFault.{ImageFault}
 use Rattle.sh_world.specs.World.{WorldStands}
-use Rattle.sh_exec.specs.State.{start}
-use Rattle.sh_exec.specs.declared.settings.Settings.{Settings}
+use Rattle.sh_world.specs.State.{start}
+use Rattle.sh_world.specs.Settings.{Settings}
 use Rattle.sh_schedules_outcomes.proofs.beginning.begin.Goals as goal
 
 same_files : (read : Result FileMap ImageFault) (a b : FileMap) → read ≡ Ok a → read ≡ Ok b → a ≡ b

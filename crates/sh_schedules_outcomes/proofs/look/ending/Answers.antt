@@ -1,6 +1,6 @@
 use Rattle.std.proofs.Common.{ℕ, List, Option, ap, ◌∙◌}
 use Rattle.sh_kernel_processes.specs.declared.process.Status.{Status}
-use Rattle.sh_exec.specs.State.{runnables}
+use Rattle.sh_world.specs.State.{runnables}
 use Rattle.sh_schedules_outcomes.specs.Shell.{ending_by}
 use Rattle.sh_schedules_outcomes.proofs.look.ending.Goals as goal
 

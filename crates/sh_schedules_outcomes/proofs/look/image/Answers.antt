@@ -1,6 +1,6 @@
 use Rattle.std.proofs.Common.{◌≡◌, ap, ◌∙◌}
 use Rattle.sh_files.specs.Writing.{image_text}
-use Rattle.sh_exec.specs.State.{files_of}
+use Rattle.sh_world.specs.State.{files_of}
 use Rattle.sh_schedules_outcomes.proofs.look.image.Goals as goal
 
 pub returns-in_default : goal.returns-in_default

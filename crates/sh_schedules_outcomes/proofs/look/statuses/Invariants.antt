@@ -1,5 +1,5 @@
 use Rattle.std.proofs.Common.{◌≡◌, ◌≤◌, length, take}
-use Rattle.sh_exec.specs.State.{State}
+use Rattle.sh_world.specs.State.{State}
 use Rattle.sh_world.specs.World.{WorldStands}
 use Rattle.sh_schedules_outcomes.proofs.Looking.{statuses_of}
 use Rattle.sh_schedules_outcomes.proofs.look.statuses.Given as goal

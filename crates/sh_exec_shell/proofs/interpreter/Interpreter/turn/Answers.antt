@@ -1,5 +1,5 @@
 use Rattle.std.proofs.Common.{ap, ◌∙◌}
-use Rattle.sh_exec_entering.specs.Stacks.{run_of}
+use Rattle.sh_exec_turns.specs.Stacks.{run_of}
 use Rattle.sh_exec_shell.proofs.Frames.{shell_turned}
 use Rattle.sh_exec_shell.proofs.interpreter.Interpreter.turn.Goals as goal
 
