@@ -37,7 +37,6 @@ use std::alloc::Global;
 use std::mem;
 
 /// A process that lives, and what it runs.
-#[derive(Drop)]
 pub enum Task<S: Stock> {
     /// A shell.
     Runs(Interpreter),
@@ -48,6 +47,23 @@ pub enum Task<S: Stock> {
         ask: Ask,
         program: S,
     },
+}
+
+// It is dropped here, so that no crate above has to prove that of its parts.
+impl<S: Stock> Drop for Task<S> {
+    fn drop(self) {
+        match self {
+            Task::Runs(interpreter) => drop(interpreter),
+            Task::Asks {
+                pid: _,
+                ask,
+                program,
+            } => {
+                drop(ask);
+                drop(program);
+            }
+        }
+    }
 }
 
 /// The first place of the first shell.

@@ -24,11 +24,24 @@ use std::marker::Model;
 use std::mem;
 
 /// A shell (XCU 2.13) in its process, and what it runs there.
-#[derive(Drop)]
 pub struct Interpreter {
     shell: Shell,
     frames: Frames,
     active: Active,
+}
+
+// It is dropped here, so that no crate above has to prove that of its parts.
+impl Drop for Interpreter {
+    fn drop(self) {
+        let Interpreter {
+            shell,
+            frames,
+            active,
+        } = self;
+        drop(shell);
+        drop(frames);
+        drop(active);
+    }
 }
 
 impl Model for Interpreter {

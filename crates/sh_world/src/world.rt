@@ -31,7 +31,6 @@ use std::marker::Model;
 /// A first shell with its terminal and its files, and the processes that it makes, with the programs of a stock. It stands at a
 /// state of the shell machine, and each event takes it to the next one. Once memory was wanting it is spent: it answers `NoMemory`
 /// from then on, and shows the terminal's bytes as they were after the last event that was answered `Ok`.
-#[derive(Drop)]
 pub struct World<S: Stock> {
     alloc: Global,
     kernel: Kernel,
@@ -43,6 +42,26 @@ pub struct World<S: Stock> {
     /// Which processes may take a turn.
     awake: Awake,
     lack: Option<NoMemory>,
+}
+
+// It is dropped here, so that no crate above has to prove that of its parts.
+impl<S: Stock> Drop for World<S> {
+    fn drop(self) {
+        let World {
+            alloc: _,
+            kernel,
+            tasks,
+            no_jobs,
+            last: _,
+            shown: _,
+            awake,
+            lack: _,
+        } = self;
+        drop(kernel);
+        drop(tasks);
+        drop(no_jobs);
+        drop(awake);
+    }
 }
 
 impl<S: Stock> Model for World<S> {
