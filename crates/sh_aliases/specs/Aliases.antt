@@ -11,7 +11,7 @@ use Rattle.std.specs.Str.{bytes_eq}
 use Rattle.sh_aliases.specs.declared.alias.Alias.{Alias}
 use Rattle.sh_parse_documents.specs.Stream.{Ending, AtEnd, Cut, Items, items_of}
 use Rattle.sh_parse_documents.specs.declared.item.Item.{Item}
-use Rattle.sh_token.specs.declared.token.TokenKind.{TokenKind}
+use Rattle.sh_parse_documents.specs.TokenKind.{TokenKind}
 use Rattle.sh_token_pieces.specs.Bytes.{is_blank}
 use Rattle.sh_token_pieces.specs.declared.operator.Operator.{Operator}
 

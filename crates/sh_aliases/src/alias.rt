@@ -6,9 +6,9 @@ ghost use Rattle.sh_parse_documents.specs.Scanned.{all_items};
 
 use sh_base::NoMemory;
 use sh_base::sequence::{Sequence, Text};
+use sh_parse_documents::TokenKind;
 use sh_parse_documents::item::Item;
 use sh_parse_documents::items::{Items, scan_items};
-use sh_token::token::TokenKind;
 use sh_token_pieces::byte::blank;
 use sh_token_pieces::operator::Operator;
 use std::alloc::Global;

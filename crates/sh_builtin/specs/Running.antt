@@ -46,12 +46,12 @@ use Rattle.sh_builtin_regular.specs.declared.conditional.Verdict.TheVariants as 
 use Rattle.sh_builtin_regular.specs.Operands.{reader_of}
 use Rattle.sh_builtin_regular.specs.declared.reader.LineReader.{LineReader}
 use Rattle.sh_builtin_shell.specs.Shells.{has_job_control, is_interactive, own_group, up_to_date}
-use Rattle.sh_builtin_wait.specs.declared.run.Awaited.TheVariants as awaited
-use Rattle.sh_builtin_wait.specs.declared.command.WaitStart.{WaitStart}
-use Rattle.sh_builtin_wait.specs.declared.command.WaitStart.TheVariants as start
-use Rattle.sh_builtin_wait.specs.declared.run.WaitStep.{WaitStep}
-use Rattle.sh_builtin_wait.specs.declared.run.WaitStep.TheVariants as step
-use Rattle.sh_builtin_wait.specs.Waits.{wait_of}
+use Rattle.sh_builtin_outcome.specs.Awaited.TheVariants as awaited
+use Rattle.sh_builtin_outcome.specs.WaitStart.{WaitStart}
+use Rattle.sh_builtin_outcome.specs.WaitStart.TheVariants as start
+use Rattle.sh_builtin_outcome.specs.WaitStep.{WaitStep}
+use Rattle.sh_builtin_outcome.specs.WaitStep.TheVariants as step
+use Rattle.sh_builtin_outcome.specs.Waits.{wait_of}
 use Rattle.sh_files.specs.Nodes.{FileMap}
 use Rattle.sh_files.specs.Search.{dot_script}
 use Rattle.sh_kernel.specs.State.{KernelState}

@@ -18,3 +18,7 @@ pub use command::behind_command;
 pub use invocation::Invocation;
 pub use killing::job_control;
 pub use running::run;
+pub use sh_builtin_outcome::{
+    Awaited, Builtin, Completion, Continuation, KillAsk, Leave, LineReader, TextOrigin, TextRun,
+};
+pub use sh_builtin_shell::Functions;

@@ -2,14 +2,13 @@
 ghost use Rattle.std.specs.Prelude.{◌≡◌, IfOk};
 ghost use Rattle.sh_builtin.specs.Running.{wait_outcome, wait_ran, wait_start, wait_step, with_outcome};
 ghost use Rattle.sh_builtin_shell.specs.Shells.{up_to_date};
-ghost use Rattle.sh_builtin_wait.specs.Waits.{wait_of};
+ghost use Rattle.sh_builtin_outcome.specs.Waits.{wait_of};
 ghost use Rattle.sh_kernel.specs.State.{KernelState, StandsAt};
 
 use sh_base::NoMemory;
 use sh_base::sequence::{Sequence, Text};
-use sh_builtin_outcome::{Builtin, Outcome};
+use sh_builtin_outcome::{Awaited, Builtin, Outcome, WaitStart, WaitStep, wait_of};
 use sh_builtin_shell::Shell;
-use sh_builtin_wait::{Awaited, WaitStart, WaitStep, wait_of};
 use sh_kernel::Kernel;
 use std::alloc::Global;
 

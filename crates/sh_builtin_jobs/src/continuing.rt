@@ -1,7 +1,7 @@
 //! What `bg` and `fg` write, and the groups that they send CONT.
 ghost use Rattle.std.specs.Prelude.{◌≡◌, ◌++◌, [], IfOk, OnOk, codes, decimal, option_map};
 ghost use Rattle.sh_builtin_jobs.specs.Continuing.{after_continuing, background_line, background_lines, background_of, background_parsed, bg_of, continued, continued_jobs, fg_of, foreground, foreground_found, foreground_if_on, foreground_ids, foreground_of, foreground_of_job, ids_or_current, no_job, no_job_control, usage};
-ghost use Rattle.sh_kernel.specs.State.{KernelState, StandsAt};
+ghost use Rattle.sh_jobs.specs.State.{KernelState, StandsAt};
 
 use crate::job_word::{
     Wanted, job_named, messages_named, named_status, numbers_named, options_and_ids,
@@ -10,8 +10,7 @@ use crate::message::{fault_text, message, message_about};
 use itoa::Buffer;
 use sh_base::NoMemory;
 use sh_base::sequence::{Sequence, Text};
-use sh_jobs::{Job, JobFault, JobState, Jobs};
-use sh_kernel::Kernel;
+use sh_jobs::{Job, JobFault, JobState, Jobs, Kernel};
 use std::alloc::Global;
 
 /// A job that is continued: CONT is sent to its group.

@@ -2,14 +2,13 @@
 ghost use Rattle.std.specs.Prelude.{◌≡◌, IfOk, option_map};
 ghost use Rattle.std.specs.List.{list_all};
 ghost use Rattle.sh_builtin_jobs.specs.JobWords.{is_job_id, is_over, job_named, messages_named, named_status, numbers_named, options_and_ids, unless_over};
-ghost use Rattle.sh_kernel.specs.State.{KernelState, StandsAt};
+ghost use Rattle.sh_jobs.specs.State.{KernelState, StandsAt};
 
 use crate::message::{fault_text, message_about};
 use sh_base::NoMemory;
 use sh_base::sequence::{Sequence, Text};
 use sh_builtin_environment::parse_options;
-use sh_jobs::{JobFault, JobState, Jobs};
-use sh_kernel::Kernel;
+use sh_jobs::{JobFault, JobState, Jobs, Kernel};
 use std::alloc::Global;
 
 /// The jobs that a built-in takes.

@@ -2,14 +2,13 @@
 ghost use Rattle.std.specs.Prelude.{◌≡◌, IfOk};
 ghost use Rattle.sh_builtin_jobs.specs.Listing.{after_lines, after_listing, form_of, job_lines, jobs_listed, jobs_named, jobs_of, told_in, told_of_each};
 ghost use Rattle.sh_builtin_jobs.specs.JobWords.{state_at};
-ghost use Rattle.sh_kernel.specs.State.{KernelState, StandsAt};
+ghost use Rattle.sh_jobs.specs.State.{KernelState, StandsAt};
 
 use crate::job_word::{Wanted, messages_named, named_status, numbers_named, options_and_ids};
 use sh_base::NoMemory;
 use sh_base::sequence::{Sequence, Text, copies_of};
 use sh_builtin_environment::BuiltinFault;
-use sh_jobs::{JobForm, Jobs};
-use sh_kernel::Kernel;
+use sh_jobs::{JobForm, Jobs, Kernel};
 use std::alloc::Global;
 
 /// What `jobs` lists (XCU jobs).

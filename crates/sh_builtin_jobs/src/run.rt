@@ -1,15 +1,14 @@
 //! How `kill` goes from operand to operand.
 ghost use Rattle.std.specs.Prelude.{◌≡◌, [], drop, IfOk, option_map};
 ghost use Rattle.sh_builtin_jobs.specs.KillRuns.{kill_next, kill_start, kill_status, next_step, said_of, with_message};
-ghost use Rattle.sh_kernel.specs.State.{KernelState, StandsAt};
+ghost use Rattle.sh_jobs.specs.State.{KernelState, StandsAt};
 
 use crate::command::KillSend;
 use crate::message::{fault_text, message_about};
 use crate::target::{JobControl, kill_target};
 use sh_base::NoMemory;
 use sh_base::sequence::{Sequence, Text, copies_of};
-use sh_jobs::{JobFault, Jobs};
-use sh_kernel::Kernel;
+use sh_jobs::{JobFault, Jobs, Kernel};
 use sh_kernel_signals::SignalTarget;
 use std::alloc::Global;
 

@@ -3,14 +3,13 @@ ghost use Rattle.std.specs.Prelude.{◌≡◌, [], IfOk};
 ghost use Rattle.sh_base.specs.Decimals.{at_most};
 ghost use Rattle.sh_builtin_jobs.specs.KillTargets.{group_target, group_with, job_target, kill_target, process_target, process_with, target_found, target_of_job};
 ghost use Rattle.sh_jobs.specs.Ids.{job_of_id};
-ghost use Rattle.sh_kernel.specs.State.{KernelState, StandsAt};
+ghost use Rattle.sh_jobs.specs.State.{KernelState, StandsAt};
 
 use crate::command::group_number;
 use sh_base::NoMemory;
 use sh_base::decimal::number_of;
 use sh_base::sequence::Sequence;
-use sh_jobs::{Job, JobFault, Jobs};
-use sh_kernel::Kernel;
+use sh_jobs::{Job, JobFault, Jobs, Kernel};
 use sh_kernel_signals::SignalTarget;
 use std::alloc::Global;
 

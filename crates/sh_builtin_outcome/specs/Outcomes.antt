@@ -14,7 +14,7 @@ use Rattle.sh_builtin_environment.specs.declared.outcome.BuiltinFault.{BuiltinFa
 use Rattle.sh_builtin_environment.specs.declared.outcome.BuiltinFault.TheVariants as fault
 use Rattle.sh_builtin_environment.specs.declared.outcome.Outcome.{Outcome as Answer}
 use Rattle.sh_builtin_environment.specs.declared.outcome.Outcome.TheVariants as answer
-use Rattle.sh_builtin_jobs.specs.declared.run.KillAsk.{KillAsk}
+use Rattle.sh_builtin_wait.specs.KillAsk.{KillAsk}
 use Rattle.sh_builtin_regular.specs.declared.reader.LineReader.{LineReader}
 use Rattle.sh_builtin_wait.specs.declared.run.Awaited.{Awaited}
 use Rattle.sh_kernel_signals.specs.Sets.{no_signals}

@@ -7,3 +7,5 @@ mod outcome;
 
 pub use builtin::Builtin;
 pub use outcome::{Completion, Continuation, Leave, Outcome, TextOrigin, TextRun};
+pub use sh_builtin_regular::LineReader;
+pub use sh_builtin_wait::{Awaited, KillAsk, WaitStart, WaitStep, wait_of};

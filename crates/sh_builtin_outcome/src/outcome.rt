@@ -7,9 +7,8 @@ use crate::message::{fault_line, status_of};
 use sh_base::NoMemory;
 use sh_base::sequence::{Sequence, Text};
 use sh_builtin_environment::BuiltinFault;
-use sh_builtin_jobs::{ContinuedJob, KillAsk};
 use sh_builtin_regular::LineReader;
-use sh_builtin_wait::Awaited;
+use sh_builtin_wait::{Awaited, ContinuedJob, KillAsk};
 use sh_kernel_signals::SignalSet;
 use std::alloc::Global;
 

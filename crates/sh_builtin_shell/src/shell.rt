@@ -4,15 +4,14 @@ ghost use Rattle.std.specs.List.{list_any};
 ghost use Rattle.sh_builtin_shell.specs.Shells.{after_launch, after_suspension, all_but, all_but_those, forked_shell, group_by, has_job_control, in_background, in_foreground, is_interactive, job_group, last_of, own_group, up_to_date, with_last, without_background, without_job, without_process};
 ghost use Rattle.sh_builtin_shell.specs.declared.shell.Shell.{Shell};
 ghost use Rattle.sh_jobs.specs.Table.{free_number};
-ghost use Rattle.sh_kernel.specs.State.{KernelState, StandsAt};
+ghost use Rattle.sh_jobs.specs.State.{KernelState, StandsAt};
 
 use crate::functions::Functions;
 use sh_aliases::Aliases;
 use sh_base::NoMemory;
 use sh_base::sequence::Sequence;
 use sh_builtin_environment::Traps;
-use sh_jobs::{JobState, Jobs, latest_change};
-use sh_kernel::Kernel;
+use sh_jobs::{JobState, Jobs, Kernel, latest_change};
 use sh_kernel_signals::SignalSet;
 use sh_vars::Vars;
 use std::alloc::Global;

@@ -3,15 +3,14 @@ ghost use Rattle.std.specs.Prelude.{◌≡◌, IfOk};
 ghost use Rattle.std.specs.List.{list_all};
 ghost use Rattle.sh_builtin_jobs.specs.JobWords.{is_job_id};
 ghost use Rattle.sh_builtin_wait.specs.Waits.{first_wait, is_operand, wait_of, wait_with};
-ghost use Rattle.sh_kernel.specs.State.{KernelState, StandsAt};
+ghost use Rattle.sh_jobs.specs.State.{KernelState, StandsAt};
 
 use crate::run::{WaitStep, first_wait};
 use sh_base::NoMemory;
 use sh_base::decimal::number_of;
 use sh_base::sequence::{Sequence, Text, copies_of};
 use sh_builtin_environment::{BuiltinFault, parse_options};
-use sh_jobs::Jobs;
-use sh_kernel::Kernel;
+use sh_jobs::{Jobs, Kernel};
 use std::alloc::Global;
 
 /// What `wait` begins with.

@@ -8,4 +8,5 @@ mod target;
 
 pub use command::{WaitStart, wait_of};
 pub use run::{Awaited, OperandWait, WaitReport, WaitStep};
+pub use sh_builtin_jobs::{ContinuedJob, KillAsk};
 pub use target::WaitTarget;

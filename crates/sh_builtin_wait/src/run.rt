@@ -1,14 +1,13 @@
 //! How `wait` goes from operand to operand.
 ghost use Rattle.std.specs.Prelude.{◌≡◌, IfOk, drop};
 ghost use Rattle.sh_builtin_wait.specs.Waits.{first_wait, next_step, next_wait, processes_of};
-ghost use Rattle.sh_kernel.specs.State.{KernelState, StandsAt};
+ghost use Rattle.sh_jobs.specs.State.{KernelState, StandsAt};
 
 use crate::message::no_job;
 use crate::target::{Named, WaitTarget, named_of};
 use sh_base::NoMemory;
 use sh_base::sequence::{Sequence, Text, copies_of};
-use sh_jobs::Jobs;
-use sh_kernel::Kernel;
+use sh_jobs::{Jobs, Kernel};
 use std::alloc::Global;
 use std::slice;
 

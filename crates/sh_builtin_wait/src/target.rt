@@ -1,13 +1,12 @@
 //! What an operand of `wait` names.
 ghost use Rattle.std.specs.Prelude.{◌≡◌, ◌==◌, IfOk, find};
 ghost use Rattle.sh_builtin_wait.specs.Waits.{named_found, named_of, named_process};
-ghost use Rattle.sh_kernel.specs.State.{KernelState, StandsAt};
+ghost use Rattle.sh_jobs.specs.State.{KernelState, StandsAt};
 
 use sh_base::NoMemory;
 use sh_base::decimal::number_of;
 use sh_base::sequence::Sequence;
-use sh_jobs::{JobFault, Jobs};
-use sh_kernel::Kernel;
+use sh_jobs::{JobFault, Jobs, Kernel};
 use std::alloc::Global;
 
 /// What is waited for at an operand of `wait`.

@@ -3,11 +3,9 @@ use crate::beginning::Beginning;
 use crate::status::CommandStatus;
 use sh_base::sequence::{Sequence, Text};
 use sh_base::shared::Shared;
-use sh_builtin::Invocation;
-use sh_builtin_jobs::KillAsk;
-use sh_builtin_outcome::{Builtin, Completion, Continuation, Leave, TextRun};
-use sh_builtin_regular::LineReader;
-use sh_builtin_wait::Awaited;
+use sh_builtin::{
+    Awaited, Builtin, Completion, Continuation, Invocation, KillAsk, Leave, LineReader, TextRun,
+};
 use sh_exec_machine::Undone;
 use sh_exec_parts::message::Piece;
 use sh_exec_parts::redirection::Redirection;

@@ -4,8 +4,8 @@ use Rattle.std.specs.Prelude.{ℕ, List, [], ◌∷◌, ◌==◌, ◌&&◌, ◌|
 use Rattle.std.specs.Str.{bytes_eq}
 use Rattle.sh_base.specs.Names.{is_name}
 use Rattle.sh_exec_parts.specs.Simple.{Opened, words_of}
-use Rattle.sh_expand_parts.specs.declared.context.Context.{Context}
-use Rattle.sh_expand_parts.specs.declared.context.Context.TheVariants.{Fields, Operand}
+use Rattle.sh_expand.specs.Context.{Context}
+use Rattle.sh_expand.specs.Context.TheVariants.{Fields, Operand}
 use Rattle.sh_syntax.specs.declared.tree.Part.{Part}
 use Rattle.sh_syntax.specs.declared.tree.Parts.{Parts}
 use Rattle.sh_syntax.specs.declared.tree.SimpleItem.{SimpleItem}

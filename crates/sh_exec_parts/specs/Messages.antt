@@ -3,10 +3,10 @@ use Rattle.std.specs.Prelude.{ℕ, List, [], ◌∷◌, ◌++◌, Option, Some, 
 use Rattle.sh_exec_parts.specs.declared.message.Piece.{Piece}
 use Rattle.sh_exec_parts.specs.declared.message.Refusal.{Refusal}
 use Rattle.sh_exec_parts.specs.declared.message.Refusal.TheVariants as refusal
-use Rattle.sh_expand_parts.specs.declared.fault.ArithmeticError.{ArithmeticError}
-use Rattle.sh_expand_parts.specs.declared.fault.ArithmeticError.TheVariants as arithmetic
-use Rattle.sh_expand_parts.specs.declared.fault.Fault.{Fault}
-use Rattle.sh_expand_parts.specs.declared.fault.Fault.TheVariants as fault
+use Rattle.sh_expand.specs.ArithmeticError.{ArithmeticError}
+use Rattle.sh_expand.specs.ArithmeticError.TheVariants as arithmetic
+use Rattle.sh_expand.specs.Fault.{Fault}
+use Rattle.sh_expand.specs.Fault.TheVariants as fault
 use Rattle.sh_files.specs.declared.fault.FileFault.{FileFault}
 use Rattle.sh_files.specs.declared.fault.FileFault.TheVariants as file
 use Rattle.sh_kernel_descriptors.specs.declared.fault.KernelFault.{KernelFault}

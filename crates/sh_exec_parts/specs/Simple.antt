@@ -1,7 +1,7 @@
 -- The parts of a simple command in its tree (XCU 2.9.1), and the redirections of a compound command.
 use Rattle.std.specs.Prelude.{ℕ, List, [], ◌∷◌, ◌-◌, Option, Some, None, Bool, is_some, length, option_map, take, drop, unwrap_or}
 use Rattle.sh_exec_parts.specs.declared.simple.Assignment.{Assignment}
-use Rattle.sh_expand_parts.specs.declared.context.Context.TheVariants.{Fields, Single, QuotedSingle}
+use Rattle.sh_expand.specs.Context.TheVariants.{Fields, Single, QuotedSingle}
 use Rattle.sh_expand.specs.declared.wanted.Wanted.{Wanted}
 use Rattle.sh_syntax.specs.declared.tree.AndOr.{AndOr}
 use Rattle.sh_syntax.specs.declared.tree.CaseItem.{CaseItem}

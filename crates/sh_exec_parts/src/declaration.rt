@@ -4,7 +4,7 @@ ghost use Rattle.sh_exec_parts.specs.Declarations.{assigns, assigns_by, declares
 
 use crate::simple::word_of;
 use sh_base::name::is_name;
-use sh_expand_parts::Context;
+use sh_expand::Context;
 use sh_syntax::tree::{Part, Parts, SimpleItem};
 
 /// The text of a part that is unquoted text.

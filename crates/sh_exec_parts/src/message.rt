@@ -5,7 +5,7 @@ ghost use Rattle.sh_exec_parts.specs.Messages.{arithmetic_text, cannot_execute, 
 use itoa::Buffer;
 use sh_base::NoMemory;
 use sh_base::sequence::{Sequence, Text};
-use sh_expand_parts::{ArithmeticError, Fault};
+use sh_expand::{ArithmeticError, Fault};
 use sh_files::FileFault;
 use sh_kernel_descriptors::KernelFault;
 use std::alloc::Global;

@@ -6,8 +6,7 @@ ghost use Rattle.sh_exec_parts.specs.Simple.{assignment_of, assignments_of, befo
 use sh_base::NoMemory;
 use sh_base::sequence::{Sequence, Text};
 use sh_base::shared::Shared;
-use sh_expand::Wanted;
-use sh_expand_parts::Context;
+use sh_expand::{Context, Wanted};
 use sh_syntax::tree::{Command, Parts, Redirect, SimpleItem, Target};
 use std::alloc::Global;
 

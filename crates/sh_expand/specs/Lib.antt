@@ -6,3 +6,6 @@ pub mod Laws
 pub mod Parts
 pub mod WordProgress
 pub mod Weights
+pub use Rattle.sh_expand_parts.specs.declared.context.Context
+pub use Rattle.sh_expand_parts.specs.declared.fault.ArithmeticError
+pub use Rattle.sh_expand_parts.specs.declared.fault.Fault

@@ -3,3 +3,4 @@ pub mod Nodes
 pub mod Search
 pub mod Writing
 pub mod Whole
+pub use Rattle.sh_files_image.specs.declared.node.Node

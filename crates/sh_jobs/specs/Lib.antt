@@ -8,3 +8,4 @@ pub mod Order
 pub mod States
 pub mod Table
 pub mod Words
+pub use Rattle.sh_kernel.specs.State

@@ -24,5 +24,6 @@ pub use laws::{
 };
 pub use line::JobForm;
 pub use moments::latest_change;
+pub use sh_kernel::Kernel;
 pub use stages::state_of;
 pub use state::{Ending, JobState};

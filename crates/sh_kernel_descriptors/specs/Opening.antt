@@ -3,8 +3,8 @@ use Rattle.std.specs.Prelude.{ℕ, ◌++◌, List, [], ◌∷◌, length, Bool, 
 use Rattle.sh_files.specs.Nodes.{FileMap, nameless, opened}
 use Rattle.sh_files.specs.declared.fault.FileFault.{FileFault}
 use Rattle.sh_files.specs.declared.opening.Opening.{Opening}
-use Rattle.sh_files_image.specs.declared.node.Node.{Node}
-use Rattle.sh_files_image.specs.declared.node.Node.TheVariants as node
+use Rattle.sh_files.specs.Node.{Node}
+use Rattle.sh_files.specs.Node.TheVariants as node
 use Rattle.sh_kernel_descriptors.specs.Outcomes.{Done, success, refusal, fault_of_file}
 use Rattle.sh_kernel_processes.specs.Processes.{lives}
 use Rattle.sh_kernel_descriptors.specs.Machine.{MachineState}

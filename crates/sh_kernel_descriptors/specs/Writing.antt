@@ -3,8 +3,8 @@ use Rattle.std.specs.Prelude.{ℕ, ◌+◌, List, length, Bool, true, Option, So
 use Rattle.sh_files.specs.Nodes.{FileMap, is_empty, write_at, write_fits}
 use Rattle.sh_files.specs.declared.fault.FileFault.{FileFault}
 use Rattle.sh_files.specs.declared.fault.FileFault.TheVariants.{TooLarge}
-use Rattle.sh_files_image.specs.declared.node.Node.{Node}
-use Rattle.sh_files_image.specs.declared.node.Node.TheVariants as node
+use Rattle.sh_files.specs.Node.{Node}
+use Rattle.sh_files.specs.Node.TheVariants as node
 use Rattle.sh_pipe.specs.Pipe.{PipeState, write_result, after_write}
 use Rattle.sh_pipe.specs.declared.PipeFault.{PipeFault}
 use Rattle.sh_kernel_descriptors.specs.Outcomes.{Done, success, refusal, fault_of_file, fault_of_pipe}

@@ -3,7 +3,7 @@ use Rattle.std.proofs.Common.{◌≡◌, ◌⊎◌, inl, inr, ◌↔◌, ℕ, ze
 use Rattle.std.specs.Option.{option_map}
 use Rattle.sh_token_pieces.specs.declared.here.Delimiter.{Delimiter}
 use Rattle.sh_token_pieces.specs.Here.{lines, is_end_line, joins_next, is_nothing, are_bodies}
-use Rattle.sh_token_scanner.proofs.Bodies.{lines_some, one_line, nothing_left}
+use Rattle.sh_token.proofs.Bodies.{lines_some, one_line, nothing_left}
 use Rattle.sh_parse_documents.specs.Bodies.{AreBodies, size_from, bodies_size}
 
 abbrev whole : List Delimiter → Bool → List ℕ → List ℕ → ℕ → Bool

@@ -6,3 +6,4 @@ pub mod Items
 pub mod Places
 pub mod Stream
 pub mod Scanned
+pub use Rattle.sh_token.specs.declared.token.TokenKind

@@ -9,3 +9,5 @@ pub mod item;
 pub mod items;
 mod line;
 pub mod waiting;
+
+pub use sh_token::token::TokenKind;

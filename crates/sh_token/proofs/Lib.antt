@@ -13,3 +13,4 @@ pub mod Places
 pub mod BodyComplete
 pub mod BodySound
 pub mod BodyLaws
+pub use Rattle.sh_token_scanner.proofs.Bodies

@@ -1,5 +1,5 @@
 use Rattle.std.proofs.Common.{◌≡◌, ◌++◌, length}
-use Rattle.sh_kernel.specs.State.{KernelState, StandsAt}
+use Rattle.sh_jobs.specs.State.{KernelState, StandsAt}
 use Rattle.sh_builtin_jobs.specs.JobWords.{messages_named}
 use Rattle.sh_builtin_jobs.proofs.job_word.messages_named.Given as goal
 

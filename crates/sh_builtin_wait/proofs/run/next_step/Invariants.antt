@@ -1,5 +1,5 @@
 use Rattle.std.proofs.Common.{◌≡◌, length}
-use Rattle.sh_kernel.specs.State.{KernelState, StandsAt}
+use Rattle.sh_jobs.specs.State.{KernelState, StandsAt}
 use Rattle.sh_builtin_wait.specs.Waits.{next_step, step_to}
 use Rattle.sh_builtin_wait.proofs.run.next_step.Given as goal
 
