@@ -1,4 +1,4 @@
-"""Proves crates side by side where rt ci keeps nothing of what it passed: what ./build and scripts/try_wrong_bodies.py share."""
+"""Proves crates side by side where rt ci keeps nothing of what it passed, for ./build; and what scripts share with it."""
 import concurrent.futures
 import contextlib
 import fcntl
@@ -47,9 +47,31 @@ def longest_ways(repository, crates):
     return below, ways
 
 
+def texts_of(repository, crate):
+    """The sources of a crate, by their paths in it."""
+    texts, folder = {}, f"{repository}/crates/{crate}"
+    for part in sources.PARTS:
+        for place, _, names in os.walk(f"{folder}/{part}"):
+            for name in names:
+                with open(f"{place}/{name}", "rb") as it:
+                    texts[os.path.relpath(f"{place}/{name}", folder)] = it.read()
+    return texts
+
+
+def lack_below(crate, over):
+    """What is lacking in a checkout for a check of a crate over the libraries that are built there; None where each crate below has the same
+    text there as here, and is built."""
+    for below in sources.crates_below(crate):
+        if below != crate and not os.path.isdir(f"{over}/crates/{below}/out/rlib/{below}.rlib"):
+            return f"{below} isn't built in {over}: run rt ci there, or rt check in crates/{crate}"
+        if below != crate and texts_of(over, below) != texts_of(sources.TOP, below):
+            return f"{below} isn't the same in {over}"
+    return None
+
+
 @contextlib.contextmanager
 def cache_room():
-    """A folder that stays, for what is proved of this repository. One run at a time has it, of ./build or of
+    """A folder that stays, for what is proved and tried of this repository. One run at a time has it, of ./build or of
     scripts/try_wrong_bodies.py; another one waits."""
     cache = os.environ.get("XDG_CACHE_HOME") or os.path.expanduser("~/.cache")
     room = f"{cache}/psh/{hashlib.sha256(sources.TOP.encode()).hexdigest()[:16]}"

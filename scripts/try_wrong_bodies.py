@@ -1,17 +1,27 @@
 #!/usr/bin/env python3
-"""Tries the wrong bodies that the gate leaves out: the prover has to refuse each.
+"""Tries wrong bodies, many in one check: the prover has to refuse each.
 
-usage: try_wrong_bodies.py [--all | --with-gate | --since COMMIT | CRATE ..]
+usage: try_wrong_bodies.py [--over FOLDER] [--jobs N] [--said FOLDER] [--with-gate] [--all | --since COMMIT | CRATE ..]
 
-The folder wrong-bodies/CRATE holds edits in the form of those in crates/CRATE/must-fail. With no word the edits of the crates
-that were touched since origin/main are tried, with --since those since another commit, with --all those of every crate. With
---with-gate the gate's edits are tried too, and every program is proved. All is done in a copy of the repository.
+The folder wrong-bodies/CRATE holds edits in the form of those in crates/CRATE/must-fail, which the gate tries. Tried are those of
+the crates that are named, of all crates, or of those that were touched since a commit (origin/main, where none is given); with
+--with-gate the gate's edits too.
 
-Where rt ci keeps what it passed, it does the trying, so that it takes what it proved before. Else crates are tried side by side by
-rt must-fail, each as soon as the libraries below it are proved. The libraries are kept in the folder in which ./build keeps them. A
-crate whose edits were all refused is noted there, and isn't tried again over the same files. So a run that was stopped goes on where
-it stopped. Ends with 1 where an edit isn't refused, or can't be applied.
+The prover judges a function by its own body and by the contracts of what it calls, and says of each function what it doesn't prove.
+So one check can try an edit in each function. The edits of a crate are shared out in rounds, so that no two of a round stand in
+one function. A round goes on over what the ones before it proved. Most of a check is the loading of what stands below, so this takes
+a fraction of a check for each edit, which `rt must-fail` makes.
+
+In a round an edit is refused where the prover says that something of its own function isn't proved; that the function calls another
+one that isn't proved is not enough. What comes to no answer beside others is tried again, at last by itself, on the whole crate, where
+any function may be refused for it. So is, from the start, an edit that stands in no function or in several.
+
+The libraries below a crate have to stand proved in FOLDER, a checkout of the same text in which `rt ci` has run, or `rt check` in the
+crate's folder (this one, where none is given). So many crates are tried side by side as --jobs says (as there are processors). With --said what the prover said in
+each check goes to a file, with the seconds since its begin. A crate whose edits were all refused is noted, and isn't tried again over
+the same files. Ends with 1 where an edit isn't refused, or can't be applied.
 """
+import argparse
 import concurrent.futures
 import glob
 import hashlib
@@ -23,12 +33,234 @@ import sys
 import tempfile
 import time
 
+import check_wrong_bodies
 import proving
 import sources
 
-TOP = os.path.dirname(os.path.dirname(os.path.abspath(__file__)))
+TOP = sources.TOP
 EDITS = f"{TOP}/wrong-bodies"
-REFUSED = "refused, as it must be"
+# What the prover says of a function, and why.
+VERDICT = re.compile(r"fn (\S+): (proved|no proof|not proved|could not tell)\b:? ?(.*)")
+# Where the prover finds something wrong.
+PLACE = re.compile(r"(?:note: )?(?:\./)?((?:src|specs|proofs)/\S+?):(\d+):\d+: (.*)")
+# The type behind `impl`, or the trait and the type.
+OWNER = re.compile(r"(?:<.*> )?(?:(\w+)(?:<.*>)?|(\w+) for (\w+)(?:<.*>)?)")
+# What is said of a proof that names what an edit took away.
+NAMES = re.compile(r"has no field|is not in scope|has no `|was not admitted")
+REFUSED, FOR_A_NAME, PROVED, BAD, UNSURE = "refused", "refused for a name alone", "NOT REFUSED", "BAD EDIT", "no answer"
+
+
+class Edit:
+    """A wrong body of a crate."""
+
+    def __init__(self, path, folder):
+        self.path, self.name, self.found = path, os.path.basename(path), None
+        self.why, self.stands = check_wrong_bodies.apply(path, folder)
+        self.pairs = pairs_of(path)
+
+    def function(self):
+        """The file and the name of the function in which it stands, if it stands in one alone whose name for the prover is known."""
+        file, name = next(iter(self.stands), ("", ""))
+        is_one = len(self.stands) == 1 and all(it == file for it, _, _ in self.pairs)
+        return (file, name) if is_one and path_of(name) else None
+
+
+def pairs_of(path):
+    """The file, the old text and the new text of each pair of an edit."""
+    file, old, pairs = None, None, []
+    for line in check_wrong_bodies.read(path).split("\n"):
+        if line.startswith("file: "):
+            file = line.removeprefix("file: ").strip()
+        elif line.startswith("old: "):
+            old = line.removeprefix("old: ")
+        elif line.startswith("new:"):
+            pairs.append((file, old, line.removeprefix("new:").removeprefix(" ")))
+    return pairs
+
+
+def rounds_of(edits):
+    """Shares edits out: none of a round stands in the function of another one of it, and what stands in no one function comes by itself."""
+    rounds, left = [], [it for it in edits if it.function()]
+    while left:
+        taken = {}
+        for edit in left:
+            taken.setdefault(edit.function(), edit)
+        rounds.append(list(taken.values()))
+        left = [it for it in left if taken[it.function()] is not it]
+    return rounds + [[it] for it in edits if not it.function()]
+
+
+def modules_of(file):
+    """The modules of a source."""
+    parts = file.removesuffix(".rt").split("/")[1:]
+    return [] if parts in (["lib"], ["main"]) else parts
+
+
+def path_of(name):
+    """The words of a function's name as the prover has it: the type of a method, with the trait behind it if it is one of a trait, and its
+    own name. None where the trait has types of its own, which go into the name."""
+    owner, _, function = name.rpartition("::")
+    found = OWNER.fullmatch(owner)
+    if not found:
+        return None if owner else [function]
+    return [found[3] + found[2] if found[3] else found[1], function]
+
+
+class Answers:
+    """What the prover said in one check."""
+
+    def __init__(self, lines):
+        self.lines = lines
+        self.verdicts = [it for it in map(VERDICT.match, lines) if it]
+        self.places = [it for it in map(PLACE.match, lines) if it]
+
+    def is_whole(self):
+        """Whether the prover came to a verdict."""
+        return any(it.startswith(("logic=", "only=")) for it in self.lines)
+
+    def of_any(self):
+        """What came of an edit that was tried by itself."""
+        failed = [it for it in self.verdicts if it[2] != "proved"]
+        if failed and self.places and all(it[1].startswith("proofs/") and NAMES.search(it[3]) for it in self.places):
+            return FOR_A_NAME, self.places[0][0]
+        if failed:
+            return REFUSED, (self.places or failed)[0][0]
+        return (PROVED, "") if re.match(r"logic=proved|only=(\d+) proved=\1$", self.lines[-1]) else (UNSURE, self.lines[-1])
+
+    def of_function(self, crate, file, name, first, last):
+        """What came of an edit of the function that stands in these lines of a source."""
+        own = [it for it in self.places if it[1] == file and first <= int(it[2]) <= last]
+        place = "/".join(["proofs", *modules_of(file), "(fn/)?" + "/".join(path_of(name)), ""])
+        cited = [it for it in self.places if re.match(place, it[1])]
+        strong = own + [it for it in cited if not NAMES.search(it[3])]
+        if strong:
+            return REFUSED, strong[0][0]
+        if cited:
+            return FOR_A_NAME, cited[0][0]
+        names = "::".join([crate, *modules_of(file), "(fn::)?" + "::".join(path_of(name))]) + r"(::.*|\+.*)?"
+        told = [it for it in self.verdicts if re.fullmatch(names, it[1])]
+        if told and all(it[2] == "proved" for it in told):
+            return PROVED, told[0][0]
+        reasons = [it for it in told if "did not prove" in it[3]]
+        return (REFUSED, reasons[0][0]) if reasons else (UNSURE, told[0][0] if told else "nothing was said of its function")
+
+
+class Trial:
+    """The edits of one crate, and a folder in which they are tried."""
+
+    def __init__(self, crate, over, room, said):
+        self.crate, self.over, self.room, self.said = crate, over, room, said
+        # How many checks were made, and the seconds of a processor that they took.
+        self.checks, self.seconds = 0, 0.0
+        self.folder = f"{TOP}/crates/{crate}"
+
+    def words(self, functions):
+        """The prover's command, for these functions, or for the whole crate."""
+        kit = os.path.dirname(subprocess.run(["rt", "doc"], stdout=subprocess.PIPE, text=True, check=True).stdout.strip())
+        named, below = sources.named_crates(), [it for it in sources.crates_below(self.crate) if it != self.crate]
+        root = "src/main.rt" if os.path.isfile(f"{self.folder}/src/main.rt") else "src/lib.rt"
+        words = [f"{kit}/bin/rattle", "check", "--crate-name", self.crate, root, "-L", f"dependency={kit}/rlibs"]
+        for name in ["std", *named[self.crate]]:
+            at = f"{self.over}/crates/{name}/out/rlib" if name in named else f"{kit}/rlibs"
+            words += ["--extern", f"{name}={at}/{name}.rlib"]
+        for name in below:
+            words += ["-L", f"dependency={self.over}/crates/{name}/out/rlib"]
+        logic = ["--antt-project", f"{kit}/rattle/logic/antt-project.json", "--logic-built", f"{kit}/logic_built"]
+        words += [f"--only={'::'.join([*modules_of(file), *path_of(name)])}" for file, name in functions]
+        return [*words, *logic, "--jobs", "1", "--progress", "--incremental", f"{self.room}/kept"]
+
+    def lay_out(self, edits):
+        """Puts the crate into the folder, with these edits."""
+        for part in sources.PARTS:
+            shutil.rmtree(f"{self.room}/{part}", ignore_errors=True)
+            if os.path.isdir(f"{self.folder}/{part}"):
+                shutil.copytree(f"{self.folder}/{part}", f"{self.room}/{part}")
+        for edit in edits:
+            for file, lines in self.edited(edit).items():
+                was = check_wrong_bodies.read(f"{self.room}/{file}").split("\n")
+                first, last = self.lines_of(edit) if edit.function() else (1, len(lines))
+                with open(f"{self.room}/{file}", "w", encoding="utf-8") as it:
+                    it.write("\n".join(was[: first - 1] + lines[first - 1 : last] + was[last:]))
+
+    def edited(self, edit):
+        """The lines of the files that an edit changes, as it leaves them. Each new text is one line in the place of one line."""
+        texts = {}
+        for file, old, new in edit.pairs:
+            text = texts.get(file) or check_wrong_bodies.read(f"{self.folder}/{file}")
+            texts[file] = text.replace(old, new)
+        return {file: text.split("\n") for file, text in texts.items()}
+
+    def check(self, edits, is_whole):
+        """Checks the functions of these edits, or the whole crate with them."""
+        self.checks += 1
+        self.lay_out(edits)
+        functions = [it.function() for it in edits]
+        begun, said = time.time(), []
+        how = {"stdin": subprocess.DEVNULL, "stdout": subprocess.PIPE, "stderr": subprocess.STDOUT, "text": True, "errors": "replace"}
+        with subprocess.Popen(self.words([] if is_whole else functions), cwd=self.room, **how) as prover:
+            for line in prover.stdout:
+                said.append((time.time() - begun, line.rstrip("\n")))
+            _, status, used = os.wait4(prover.pid, 0)
+            prover.returncode = os.waitstatus_to_exitcode(status)
+        self.seconds += used.ru_utime + used.ru_stime
+        if self.said:
+            with open(f"{self.said}/{self.crate}-{self.checks}", "w", encoding="utf-8") as it:
+                it.writelines(f"{edit.name}\n" for edit in edits)
+                it.writelines(f"{at:.1f} {line}\n" for at, line in said)
+        return Answers([line for _, line in said])
+
+    def lines_of(self, edit):
+        """The first and the last line of the function in which an edit stands."""
+        file, name = edit.function()
+        text = check_wrong_bodies.read(f"{self.folder}/{file}")
+        return next((it[0] + 1, it[1] + 1) for it in check_wrong_bodies.functions(text) if it[3] == name)
+
+    def answer(self, edit, answers, is_alone):
+        """What came of an edit."""
+        if not answers.is_whole():
+            wrong = [it for it in answers.places if "error[" in it[0] and (is_alone or self.stands_in(edit, it))]
+            return (BAD, wrong[0][0]) if wrong else (UNSURE, next((it for it in answers.lines if "error" in it), "the check came to no verdict"))
+        return answers.of_any() if is_alone else answers.of_function(self.crate, *edit.function(), *self.lines_of(edit))
+
+    def stands_in(self, edit, place):
+        """Whether a place is in the function in which an edit stands."""
+        first, last = self.lines_of(edit)
+        return place[1] == edit.function()[0] and first <= int(place[2]) <= last
+
+    def attempt(self, edits, is_whole=False):
+        """Tries edits in one check, and notes what came of each."""
+        answers = self.check(edits, is_whole)
+        for edit in edits:
+            edit.found = self.answer(edit, answers, len(edits) == 1)
+
+    def attempt_all(self, edits):
+        """Tries edits together; those that came to no answer again, as long as that brings one. Each that isn't refused is then tried by
+        itself, on the whole crate."""
+        left = [it for it in edits if it.function()]
+        while left:
+            self.attempt(left)
+            unsure = [it for it in left if it.found[0] == UNSURE]
+            if len(unsure) == len(left):
+                break
+            left = unsure
+        for edit in edits:
+            if not edit.function() or edit.found[0] in (UNSURE, PROVED):
+                self.attempt([edit], True)
+
+    def run(self, paths):
+        """Tries all edits, tells what came of those that weren't refused, and gives how many were."""
+        edits = [Edit(it, self.folder) for it in sorted(paths)]
+        for edit in edits:
+            if edit.why:
+                edit.found = BAD, edit.why
+        for those in rounds_of([it for it in edits if not it.why]):
+            self.attempt_all(those)
+        for edit in edits:
+            if edit.found[0] != REFUSED:
+                print(f"{self.crate}/{edit.name}: {edit.found[0]}: {edit.found[1][:300]}", flush=True)
+        refused = sum(it.found[0] in (REFUSED, FOR_A_NAME) for it in edits)
+        print(f"{self.crate}: {refused} of {len(edits)} refused, in {self.checks} checks and {self.seconds:.0f} s of a processor", flush=True)
+        return refused
 
 
 def touched_since(commit):
@@ -36,172 +268,61 @@ def touched_since(commit):
     git = ["git", "-C", TOP]
     changed = subprocess.run([*git, "diff", "--name-only", commit], check=True, capture_output=True, text=True).stdout
     new = subprocess.run([*git, "ls-files", "--others", "--exclude-standard"], check=True, capture_output=True, text=True).stdout
-    paths = re.findall(r"^(?:crates|wrong-bodies)/(\w+)/", changed + new, re.M)
-    return sorted(set(paths))
+    return sorted(set(re.findall(r"^(?:crates|wrong-bodies)/(\w+)/", changed + new, re.M)))
 
 
-def asked(words):
-    """The crates that the command line asks for, of those that have wrong bodies."""
-    if words in (["--all"], ["--with-gate"]):
-        names = os.listdir(EDITS)
-    elif words[:1] == ["--since"]:
-        names = touched_since(words[1])
-    else:
-        names = words or touched_since("origin/main")
-    return sorted(it for it in names if os.path.isdir(f"{EDITS}/{it}"))
+def edits_of(crate, with_gate):
+    """The files of a crate's edits."""
+    return glob.glob(f"{EDITS}/{crate}/*.edit") + (glob.glob(f"{TOP}/crates/{crate}/must-fail/*.edit") if with_gate else [])
 
 
-def copy_to(copy, names, with_gate):
-    """Copies the crates, with these wrong bodies in the place of the gate's, or beside them."""
-    leave = shutil.ignore_patterns("out", *([] if with_gate else ["must-fail"]))
-    shutil.copytree(f"{TOP}/crates", f"{copy}/crates", ignore=leave)
-    for name in ("crates.txt", "HANDLES"):
-        shutil.copy(f"{TOP}/{name}", copy)
-    for name in names:
-        shutil.copytree(f"{EDITS}/{name}", f"{copy}/crates/{name}/must-fail", dirs_exist_ok=True)
-    return sum(len(os.listdir(it)) for it in glob.glob(f"{copy}/crates/*/must-fail"))
-
-
-def tell(line):
-    """Shows a line that says what came of an edit or of a crate."""
-    if "must-fail" in line or "NOT PROVED" in line or "FAILED" in line:
-        print(line, flush=True)
-
-
-def try_by_gate(copy, names):
-    """Tries by rt ci. Gives how many edits were refused, and whether all went well."""
-    environment = {name: value for name, value in os.environ.items() if name != "CI"}
-    gate = subprocess.Popen(["rt", "ci", *names], cwd=copy, env=environment, stdout=subprocess.PIPE, text=True, errors="replace")
-    refused = bad = 0
-    for line in map(str.rstrip, gate.stdout):
-        refused += REFUSED in line
-        bad += "BAD EDIT:" in line
-        tell(line)
-    return refused, gate.wait() == 0 and bad == 0
-
-
-def sums_below(copy, crate):
+def sum_of(crate, paths):
     """A sum of all on which the answers of a crate's edits depend."""
-    files = []
-    for below in sources.crates_below(crate):
-        for part in [*sources.PARTS, *(["must-fail"] if below == crate else [])]:
-            for place, _, names in os.walk(f"{copy}/crates/{below}/{part}"):
-                files += [f"{place}/{name}" for name in names]
-    kit = subprocess.run(["rt", "version"], stdout=subprocess.PIPE, stderr=subprocess.STDOUT).stdout
-    total = hashlib.sha256(kit)
+    files = [f"{TOP}/{it}" for it in sources.files_of(sources.crates_below(crate), sources.PARTS)] + paths
+    total = hashlib.sha256(subprocess.run(["rt", "version"], stdout=subprocess.PIPE, stderr=subprocess.STDOUT).stdout)
     for file in sorted(files):
         with open(file, "rb") as it:
-            total.update(f"{os.path.relpath(file, copy)} {hashlib.sha256(it.read()).hexdigest()}\n".encode())
+            total.update(f"{os.path.relpath(file, TOP)} {hashlib.sha256(it.read()).hexdigest()}\n".encode())
     return total.hexdigest()
 
 
-class Trials:
-    """Tries the edits of crates, each crate in a folder of its own, over libraries that are proved."""
-
-    def __init__(self, copy, kept, proofs):
-        self.copy, self.kept, self.proofs = copy, kept, proofs
-
-    def edits(self, crate):
-        """How many edits a crate has in the copy."""
-        return len(glob.glob(f"{self.copy}/crates/{crate}/must-fail/*.edit"))
-
-    def attempt(self, crate):
-        """Gives how many edits of a crate were refused, and whether all went well."""
-        every, note, total = self.edits(crate), f"{self.kept}/tried-{crate}", sums_below(self.copy, crate)
-        if os.path.isfile(note) and open(note, encoding="utf-8").read() == total:
-            print(f"{crate}: {every} of {every} refused before, over the same files", flush=True)
-            return every, True
-        begun, top, crates = time.time(), f"{self.kept}/trial-{crate}", sources.crates_below(crate)
-        shutil.rmtree(top, ignore_errors=True)
-        os.makedirs(f"{top}/.git")
-        sources.put_names(crates, top)
-        for below in crates:
-            for part in sources.PARTS:
-                proving.link_folder(f"{self.copy}/crates/{below}/{part}", f"{top}/crates/{below}/{part}")
-            if below != crate:
-                proving.link_folder(f"{self.proofs.folder(below)}/out/rlib", f"{top}/crates/{below}/out/rlib")
-        proving.link_folder(f"{self.copy}/crates/{crate}/must-fail", f"{top}/crates/{crate}/must-fail")
-        status, said = self.proofs.run(top, ["rt", "must-fail", crate])
-        shutil.rmtree(top, ignore_errors=True)
-        refused, bad = sum(REFUSED in it for it in said), sum("BAD EDIT:" in it for it in said)
-        for line in said:
-            if REFUSED not in line:
-                tell(line)
-        print(f"{crate}: {refused} of {every} refused in {time.time() - begun:.0f} s", flush=True)
-        if status == 0 and not bad and refused == every:
-            with open(note, "w", encoding="utf-8") as it:
-                it.write(total)
-            return refused, True
-        return refused, False
-
-    def prove(self, crate):
-        """Proves a program."""
-        self.proofs.lay_out(crate)
-        status, said = self.proofs.run(self.proofs.folder(crate), ["rt", "check"])
-        if status:
-            raise proving.Stopped(crate, proving.first_message(said))
-        print(f"{crate} is proved", flush=True)
+def tried(crate, asked, kept):
+    """Tries a crate's edits, or takes what is noted of them. Gives how many there are, and how many were refused."""
+    paths = edits_of(crate, asked.with_gate)
+    note, total = f"{kept}/tried-{crate}", sum_of(crate, paths)
+    if os.path.isfile(note) and check_wrong_bodies.read(note) == total:
+        print(f"{crate}: {len(paths)} of {len(paths)} refused before, over the same files", flush=True)
+        return len(paths), len(paths)
+    lack = proving.lack_below(crate, asked.over)
+    if lack:
+        print(f"{crate}: not tried: {lack}", flush=True)
+        return len(paths), 0
+    with tempfile.TemporaryDirectory(prefix=f"wrong-bodies-{crate}-") as room:
+        refused = Trial(crate, asked.over, room, asked.said).run(paths)
+    if refused == len(paths):
+        with open(note, "w", encoding="utf-8") as it:
+            it.write(total)
+    return len(paths), refused
 
 
-def try_by_crates(copy, names, with_gate):
-    """Tries by rt must-fail: libraries first, the longest way up first, and a crate's edits as soon as those below it are proved.
-    Gives how many edits were refused, and whether all went well."""
-    jobs, everything = proving.processors(), sources.crates_below_all()
-    programs = {it for it in everything if os.path.isfile(f"{copy}/crates/{it}/src/main.rt")}
-    wanted = everything if with_gate else names
-    libraries = {it for name in wanted for it in sources.crates_below(name) if it != name or with_gate} - programs
-    refused, well = 0, True
-    with proving.cache_room() as kept:
-        proofs = proving.Proofs(copy, kept, lambda crate, how: print(f"{crate} {how}", flush=True))
-        proofs.take(TOP)
-        trials = Trials(copy, kept, proofs)
-        tried = [it for it in wanted if trials.edits(it)]
-        below, ways = proving.longest_ways(copy, everything)
-        left = sorted(libraries, key=lambda it: -ways[it])
-        behind = [(trials.prove, it) for it in sorted(programs) if with_gate]
-        behind += [(trials.attempt, it) for it in sorted(tried, key=lambda it: -trials.edits(it))]
-        begun, done = {}, set()
-        with concurrent.futures.ThreadPoolExecutor(jobs) as pool:
-            try:
-                while left or behind or begun:
-                    for crate in [it for it in left if done.issuperset(below[it])][: jobs - len(begun)]:
-                        left.remove(crate)
-                        begun[pool.submit(proofs.library, crate)] = crate
-                    for work in [it for it in behind if done.issuperset(below[it[1]])][: jobs - len(begun)]:
-                        behind.remove(work)
-                        begun[pool.submit(*work)] = None
-                    for it in concurrent.futures.wait(begun, return_when=concurrent.futures.FIRST_COMPLETED).done:
-                        crate, came = begun.pop(it), it.result()
-                        if crate:
-                            done.add(crate)
-                        elif came:
-                            refused, well = refused + came[0], well and came[1]
-            finally:
-                proofs.end()
-    return refused, well
-
-
-def main(words):
-    names = asked(words)
-    if not names:
-        print("no crate with wrong bodies was touched")
-        return 0
-    with_gate = words == ["--with-gate"]
-    with tempfile.TemporaryDirectory(prefix="wrong-bodies-") as copy:
-        every = copy_to(copy, names, with_gate)
-        print(f"{every} wrong bodies of {', '.join(names)}", flush=True)
-        try:
-            if proving.gate_keeps():
-                refused, well = try_by_gate(copy, [] if with_gate else names)
-            else:
-                refused, well = try_by_crates(copy, names, with_gate)
-        except proving.Stopped as it:
-            sys.exit(f"{it.args[0]} isn't proved: {it.args[1]}")
+def main():
+    reader = argparse.ArgumentParser(usage=__doc__.split("usage: ", 1)[1])
+    reader.add_argument("--over", type=os.path.abspath, default=TOP)
+    reader.add_argument("--jobs", type=int, default=proving.processors())
+    reader.add_argument("--said", type=os.path.abspath)
+    reader.add_argument("--with-gate", action="store_true")
+    reader.add_argument("--all", action="store_true")
+    reader.add_argument("--since", default="origin/main")
+    reader.add_argument("crates", nargs="*")
+    asked = reader.parse_args()
+    crates = sources.crates_below_all() if asked.all else asked.crates or touched_since(asked.since)
+    crates = sorted((it for it in crates if edits_of(it, asked.with_gate)), key=lambda it: -proving.lines_of(TOP, it))
+    with proving.cache_room() as kept, concurrent.futures.ThreadPoolExecutor(asked.jobs) as pool:
+        counts = list(pool.map(lambda it: tried(it, asked, kept), crates))
+    every, refused = sum(it[0] for it in counts), sum(it[1] for it in counts)
     print(f"{refused} of {every} refused")
-    return 0 if well and refused == every else 1
+    return 0 if refused == every else 1
 
 
 if __name__ == "__main__":
-    if sys.argv[1:2] == ["--since"] and len(sys.argv) != 3:
-        sys.exit(__doc__)
-    sys.exit(main(sys.argv[1:]))
+    sys.exit(main())
