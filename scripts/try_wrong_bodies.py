@@ -1,7 +1,7 @@
 #!/usr/bin/env python3
 """Tries wrong bodies, many in one check: the prover has to refuse each.
 
-usage: try_wrong_bodies.py [--over FOLDER] [--jobs N] [--said FOLDER] [--with-gate] [--all | --since COMMIT | CRATE ..]
+usage: try_wrong_bodies.py [--compile] [--over FOLDER] [--jobs N] [--said FOLDER] [--with-gate] [--all | --since COMMIT | CRATE ..]
 
 The folder wrong-bodies/CRATE holds edits in the form of those in crates/CRATE/must-fail, which the gate tries. Tried are those of
 the crates that are named, of all crates, or of those that were touched since a commit (origin/main, where none is given); with
@@ -20,6 +20,8 @@ The libraries below a crate have to stand proved in FOLDER, a checkout of the sa
 crate's folder (this one, where none is given). So many crates are tried side by side as --jobs says (as there are processors). With --said what the prover said in
 each check goes to a file, with the seconds since its begin. A crate whose edits were all refused is noted, and isn't tried again over
 the same files. Ends with 1 where an edit isn't refused, or can't be applied.
+
+With --compile nothing is proved: it tells in seconds which edits don't compile, and so say nothing of a contract.
 """
 import argparse
 import concurrent.futures
@@ -47,7 +49,10 @@ PLACE = re.compile(r"(?:note: )?(?:\./)?((?:src|specs|proofs)/\S+?):(\d+):\d+: (
 OWNER = re.compile(r"(?:<.*> )?(?:(\w+)(?:<.*>)?|(\w+) for (\w+)(?:<.*>)?)")
 # What is said of a proof that names what an edit took away.
 NAMES = re.compile(r"has no field|is not in scope|has no `|was not admitted")
-REFUSED, FOR_A_NAME, PROVED, BAD, UNSURE = "refused", "refused for a name alone", "NOT REFUSED", "BAD EDIT", "no answer"
+# What is said of a function whose proof the prover can't begin, whatever it does.
+UNCOVERED = "does not cover this function"
+REFUSED, WEAK, COMPILES, PROVED = "refused", "refused, but for no clause", "compiles", "NOT REFUSED"
+BAD, UNSURE = "BAD EDIT", "no answer"
 
 
 class Edit:
@@ -63,6 +68,12 @@ class Edit:
         file, name = next(iter(self.stands), ("", ""))
         is_one = len(self.stands) == 1 and all(it == file for it, _, _ in self.pairs)
         return (file, name) if is_one and path_of(name) else None
+
+
+    def path_of_function(self):
+        """The path of that function below the crate."""
+        file, name = self.function()
+        return "::".join([*modules_of(file), *path_of(name)])
 
 
 def pairs_of(path):
@@ -122,7 +133,10 @@ class Answers:
         """What came of an edit that was tried by itself."""
         failed = [it for it in self.verdicts if it[2] != "proved"]
         if failed and self.places and all(it[1].startswith("proofs/") and NAMES.search(it[3]) for it in self.places):
-            return FOR_A_NAME, self.places[0][0]
+            return WEAK, self.places[0][0]
+        uncovered = [it for it in failed if UNCOVERED in it[3]]
+        if uncovered and not self.places:
+            return WEAK, uncovered[0][0]
         if failed:
             return REFUSED, (self.places or failed)[0][0]
         return (PROVED, "") if re.match(r"logic=proved|only=(\d+) proved=\1$", self.lines[-1]) else (UNSURE, self.lines[-1])
@@ -136,7 +150,7 @@ class Answers:
         if strong:
             return REFUSED, strong[0][0]
         if cited:
-            return FOR_A_NAME, cited[0][0]
+            return WEAK, cited[0][0]
         names = "::".join([crate, *modules_of(file), "(fn::)?" + "::".join(path_of(name))]) + r"(::.*|\+.*)?"
         told = [it for it in self.verdicts if re.fullmatch(names, it[1])]
         if told and all(it[2] == "proved" for it in told):
@@ -154,8 +168,8 @@ class Trial:
         self.checks, self.seconds = 0, 0.0
         self.folder = f"{TOP}/crates/{crate}"
 
-    def words(self, functions):
-        """The prover's command, for these functions, or for the whole crate."""
+    def words(self, only):
+        """The prover's command, for the functions of these paths, or for the whole crate."""
         kit = os.path.dirname(subprocess.run(["rt", "doc"], stdout=subprocess.PIPE, text=True, check=True).stdout.strip())
         named, below = sources.named_crates(), [it for it in sources.crates_below(self.crate) if it != self.crate]
         root = "src/main.rt" if os.path.isfile(f"{self.folder}/src/main.rt") else "src/lib.rt"
@@ -166,7 +180,7 @@ class Trial:
         for name in below:
             words += ["-L", f"dependency={self.over}/crates/{name}/out/rlib"]
         logic = ["--antt-project", f"{kit}/rattle/logic/antt-project.json", "--logic-built", f"{kit}/logic_built"]
-        words += [f"--only={'::'.join([*modules_of(file), *path_of(name)])}" for file, name in functions]
+        words += [f"--only={it}" for it in only]
         return [*words, *logic, "--jobs", "1", "--progress", "--incremental", f"{self.room}/kept"]
 
     def lay_out(self, edits):
@@ -190,14 +204,13 @@ class Trial:
             texts[file] = text.replace(old, new)
         return {file: text.split("\n") for file, text in texts.items()}
 
-    def check(self, edits, is_whole):
-        """Checks the functions of these edits, or the whole crate with them."""
+    def check(self, edits, only):
+        """Checks the functions of these paths, or the whole crate, with these edits."""
         self.checks += 1
         self.lay_out(edits)
-        functions = [it.function() for it in edits]
         begun, said = time.time(), []
         how = {"stdin": subprocess.DEVNULL, "stdout": subprocess.PIPE, "stderr": subprocess.STDOUT, "text": True, "errors": "replace"}
-        with subprocess.Popen(self.words([] if is_whole else functions), cwd=self.room, **how) as prover:
+        with subprocess.Popen(self.words(only), cwd=self.room, **how) as prover:
             for line in prover.stdout:
                 said.append((time.time() - begun, line.rstrip("\n")))
             _, status, used = os.wait4(prover.pid, 0)
@@ -229,7 +242,7 @@ class Trial:
 
     def attempt(self, edits, is_whole=False):
         """Tries edits in one check, and notes what came of each."""
-        answers = self.check(edits, is_whole)
+        answers = self.check(edits, [] if is_whole else [it.path_of_function() for it in edits])
         for edit in edits:
             edit.found = self.answer(edit, answers, len(edits) == 1)
 
@@ -247,20 +260,35 @@ class Trial:
             if not edit.function() or edit.found[0] in (UNSURE, PROVED):
                 self.attempt([edit], True)
 
-    def run(self, paths):
-        """Tries all edits, tells what came of those that weren't refused, and gives how many were."""
+    def compile_all(self, edits):
+        """Compiles edits together, without those that turn out not to compile."""
+        left = edits
+        while left:
+            answers = self.check(left, [""])
+            wrong = [(edit, it) for edit in left for it in answers.places if "error[" in it[0] and (len(left) == 1 or self.stands_in(edit, it))]
+            for edit, place in wrong:
+                edit.found = BAD, place[0]
+            if answers.is_whole() or not wrong:
+                break
+            left = [it for it in left if not it.found]
+        for edit in left:
+            edit.found = edit.found or ((COMPILES, "") if answers.is_whole() else (UNSURE, answers.lines[-1]))
+
+    def run(self, paths, compiles):
+        """Tries or compiles all edits, tells what is wrong with any, and gives how many were refused, or do compile."""
         edits = [Edit(it, self.folder) for it in sorted(paths)]
         for edit in edits:
             if edit.why:
                 edit.found = BAD, edit.why
         for those in rounds_of([it for it in edits if not it.why]):
-            self.attempt_all(those)
+            (self.compile_all if compiles else self.attempt_all)(those)
+        good = [it for it in edits if it.found[0] in (REFUSED, WEAK, COMPILES)]
         for edit in edits:
-            if edit.found[0] != REFUSED:
+            if edit.found[0] not in (REFUSED, COMPILES):
                 print(f"{self.crate}/{edit.name}: {edit.found[0]}: {edit.found[1][:300]}", flush=True)
-        refused = sum(it.found[0] in (REFUSED, FOR_A_NAME) for it in edits)
-        print(f"{self.crate}: {refused} of {len(edits)} refused, in {self.checks} checks and {self.seconds:.0f} s of a processor", flush=True)
-        return refused
+        what = "compile" if compiles else "refused"
+        print(f"{self.crate}: {len(good)} of {len(edits)} {what}, in {self.checks} checks and {self.seconds:.0f} s of a processor", flush=True)
+        return len(good)
 
 
 def touched_since(commit):
@@ -287,10 +315,10 @@ def sum_of(crate, paths):
 
 
 def tried(crate, asked, kept):
-    """Tries a crate's edits, or takes what is noted of them. Gives how many there are, and how many were refused."""
+    """Tries a crate's edits, or takes what is noted of them. Gives how many there are, and how many are as they should be."""
     paths = edits_of(crate, asked.with_gate)
     note, total = f"{kept}/tried-{crate}", sum_of(crate, paths)
-    if os.path.isfile(note) and check_wrong_bodies.read(note) == total:
+    if not asked.compile and os.path.isfile(note) and check_wrong_bodies.read(note) == total:
         print(f"{crate}: {len(paths)} of {len(paths)} refused before, over the same files", flush=True)
         return len(paths), len(paths)
     lack = proving.lack_below(crate, asked.over)
@@ -298,11 +326,11 @@ def tried(crate, asked, kept):
         print(f"{crate}: not tried: {lack}", flush=True)
         return len(paths), 0
     with tempfile.TemporaryDirectory(prefix=f"wrong-bodies-{crate}-") as room:
-        refused = Trial(crate, asked.over, room, asked.said).run(paths)
-    if refused == len(paths):
+        good = Trial(crate, asked.over, room, asked.said).run(paths, asked.compile)
+    if not asked.compile and good == len(paths):
         with open(note, "w", encoding="utf-8") as it:
             it.write(total)
-    return len(paths), refused
+    return len(paths), good
 
 
 def main():
@@ -310,6 +338,7 @@ def main():
     reader.add_argument("--over", type=os.path.abspath, default=TOP)
     reader.add_argument("--jobs", type=int, default=proving.processors())
     reader.add_argument("--said", type=os.path.abspath)
+    reader.add_argument("--compile", action="store_true")
     reader.add_argument("--with-gate", action="store_true")
     reader.add_argument("--all", action="store_true")
     reader.add_argument("--since", default="origin/main")
@@ -319,9 +348,9 @@ def main():
     crates = sorted((it for it in crates if edits_of(it, asked.with_gate)), key=lambda it: -proving.lines_of(TOP, it))
     with proving.cache_room() as kept, concurrent.futures.ThreadPoolExecutor(asked.jobs) as pool:
         counts = list(pool.map(lambda it: tried(it, asked, kept), crates))
-    every, refused = sum(it[0] for it in counts), sum(it[1] for it in counts)
-    print(f"{refused} of {every} refused")
-    return 0 if refused == every else 1
+    every, good = sum(it[0] for it in counts), sum(it[1] for it in counts)
+    print(f"{good} of {every} {'compile' if asked.compile else 'refused'}")
+    return 0 if good == every else 1
 
 
 if __name__ == "__main__":
