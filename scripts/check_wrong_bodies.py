@@ -38,32 +38,41 @@ def functions(text):
     return found
 
 
-def apply(edit, folder):
-    """Applies an edit. Gives why it can't be applied, if so, and the functions in which it stands, each by its file and its name."""
-    path, old, texts, was, stands = None, None, {}, {}, set()
+def pairs_of(edit):
+    """The pairs of an edit: each a file, the old text and the new one. A file goes on for the pairs behind it."""
+    path, old, pairs = None, None, []
     for line in read(edit).split("\n"):
         if line.startswith("file: "):
             path = line.removeprefix("file: ").strip()
         elif line.startswith("old: "):
             old = line.removeprefix("old: ")
         elif line.startswith("new:"):
-            if not path or not old or not os.path.isfile(f"{folder}/{path}"):
-                return f"a pair has no text `old` or no file: {path}", stands
-            text = texts.setdefault(path, was.setdefault(path, read(f"{folder}/{path}")))
-            if text.count(old) != 1:
-                return f"a text `old` stands {text.count(old)} times in {path}: {old.strip()}", stands
-            at = text[: text.index(old)].count("\n")
-            stands |= {(path, it[3]) for it in functions(text) if it[0] <= at <= it[1]}
-            texts[path] = text.replace(old, line.removeprefix("new:").removeprefix(" "))
+            pairs.append((path, old, line.removeprefix("new:").removeprefix(" ")))
             old = None
-    return ("it changes nothing" if texts == was else None), stands
+    return pairs
+
+
+def apply(edit, folder):
+    """Applies an edit. Gives why it can't be applied, if so, the functions in which it stands, each by its file and its name, and the
+    files that it changes with their new texts."""
+    texts, was, stands = {}, {}, set()
+    for path, old, new in pairs_of(edit):
+        if not path or not old or not os.path.isfile(f"{folder}/{path}"):
+            return f"a pair has no text `old` or no file: {path}", stands, texts
+        text = texts.setdefault(path, was.setdefault(path, read(f"{folder}/{path}")))
+        if text.count(old) != 1:
+            return f"a text `old` stands {text.count(old)} times in {path}: {old.strip()}", stands, texts
+        at = text[: text.index(old)].count("\n")
+        stands |= {(path, it[3]) for it in functions(text) if it[0] <= at <= it[1]} or {(path, None)}
+        texts[path] = text.replace(old, new)
+    return ("it changes nothing" if texts == was else None), stands, texts
 
 
 def main(crates):
     bad, every, stands = 0, 0, {}
     for edit in sorted(glob.glob(f"{TOP}/wrong-bodies/*/*") + glob.glob(f"{TOP}/crates/*/must-fail/*")):
         crate = os.path.relpath(edit, TOP).split("/")[1]
-        why, where = apply(edit, f"{TOP}/crates/{crate}")
+        why, where, _ = apply(edit, f"{TOP}/crates/{crate}")
         every, bad = every + 1, bad + (why is not None)
         stands.setdefault(crate, set()).update(where)
         if why:

@@ -7,14 +7,13 @@ usage: lay_out.py [--over FOLDER] CRATE TO
 stands here, and the crates below it with what `rt ci` built of them in FOLDER, a checkout in which it has run (this one, where none is
 given). The text of these has to be the same in both. What is said of the crate in TO is no verdict: the gate's is.
 
-Ends with 1 where a crate below differs, or isn't built.
+Ends with 1 where a crate below differs or isn't built, or TO is there already.
 """
 import argparse
 import importlib.machinery
 import importlib.util
 import os
 import shutil
-import subprocess
 import sys
 
 import proving
@@ -23,9 +22,8 @@ import sources
 
 def toolchain():
     """The part of rt that tells what a library is made from."""
-    kit = os.path.dirname(subprocess.run(["rt", "doc"], stdout=subprocess.PIPE, text=True, check=True).stdout.strip())
     sys.dont_write_bytecode = True
-    loader = importlib.machinery.SourceFileLoader("rtlib", f"{kit}/bin/rtlib.py")
+    loader = importlib.machinery.SourceFileLoader("rtlib", f"{sources.kit()}/bin/rtlib.py")
     made = importlib.util.module_from_spec(importlib.util.spec_from_loader("rtlib", loader))
     sys.modules["rtlib"] = made
     loader.exec_module(made)
@@ -51,14 +49,18 @@ def main():
     asked = reader.parse_args()
     over, to = os.path.abspath(asked.over), os.path.abspath(asked.to)
     crates = sources.crates_below(asked.crate)
+    if not crates:
+        sys.exit(f"there is no crate {asked.crate}")
+    if os.path.lexists(to):
+        sys.exit(f"{to} is there already")
     lack = proving.lack_below(asked.crate, over)
     if lack:
         sys.exit(lack)
-    os.makedirs(f"{to}/.git", exist_ok=True)
+    # The folder is the top of a repository for rt.
+    os.makedirs(f"{to}/.git")
     sources.put_names(crates, to)
     for crate in crates:
         for part in sources.PARTS:
-            shutil.rmtree(f"{to}/crates/{crate}/{part}", ignore_errors=True)
             if os.path.isdir(f"{sources.TOP}/crates/{crate}/{part}"):
                 shutil.copytree(f"{sources.TOP}/crates/{crate}/{part}", f"{to}/crates/{crate}/{part}")
         if crate != asked.crate:

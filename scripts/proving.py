@@ -47,25 +47,18 @@ def longest_ways(repository, crates):
     return below, ways
 
 
-def texts_of(repository, crate):
-    """The sources of a crate, by their paths in it."""
-    texts, folder = {}, f"{repository}/crates/{crate}"
-    for part in sources.PARTS:
-        for place, _, names in os.walk(f"{folder}/{part}"):
-            for name in names:
-                with open(f"{place}/{name}", "rb") as it:
-                    texts[os.path.relpath(f"{place}/{name}", folder)] = it.read()
-    return texts
-
-
 def lack_below(crate, over):
-    """What is lacking in a checkout for a check of a crate over the libraries that are built there; None where each crate below has the same
-    text there as here, and is built."""
+    """What is lacking in a checkout for a check of a crate over the libraries that are built there; None where the crates below have the same
+    text there as here, and are built of it."""
     for below in sources.crates_below(crate):
-        if below != crate and not os.path.isdir(f"{over}/crates/{below}/out/rlib/{below}.rlib"):
-            return f"{below} isn't built in {over}: run rt ci there, or rt check in crates/{crate}"
-        if below != crate and texts_of(over, below) != texts_of(sources.TOP, below):
+        if below == crate:
+            continue
+        library = f"{over}/crates/{below}/out/rlib/{below}.rlib"
+        files = sources.files_of([below], sources.PARTS)
+        if files != sources.files_of([below], sources.PARTS, over) or sources.sums_of(files) != sources.sums_of(files, over):
             return f"{below} isn't the same in {over}"
+        if not os.path.isdir(library) or any(os.stat(f"{over}/{it}").st_mtime > os.stat(library).st_ctime for it in files):
+            return f"{below} isn't built in {over}, or has changed since: run rt ci there, or rt check in crates/{crate}"
     return None
 
 

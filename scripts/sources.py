@@ -1,7 +1,8 @@
-"""Which files psh is made of, and their checksums: what ./build and scripts/compile_unproved.py share."""
+"""Which files psh is made of, their checksums, and where the toolchain is: what ./build and the scripts share."""
 import hashlib
 import os
 import shutil
+import subprocess
 
 TOP = os.path.dirname(os.path.dirname(os.path.abspath(__file__)))
 # The parts of a crate that are proved and compiled.
@@ -46,13 +47,19 @@ def put_names(crates, to):
         it.writelines(lines)
 
 
-def files_of(crates, parts):
+def kit():
+    """The folder of the toolchain."""
+    page = subprocess.run(["rt", "doc"], stdout=subprocess.PIPE, text=True, check=True).stdout.strip()
+    return os.path.dirname(page)
+
+
+def files_of(crates, parts, top=TOP):
     """The files in these folders of crates, by their paths in the repository, and what names the crates."""
     found = ["HANDLES", "crates.txt"]
     for crate in crates:
         for part in parts:
-            for place, _, names in os.walk(f"{TOP}/crates/{crate}/{part}"):
-                found += [os.path.relpath(f"{place}/{name}", TOP) for name in names]
+            for place, _, names in os.walk(f"{top}/crates/{crate}/{part}"):
+                found += [os.path.relpath(f"{place}/{name}", top) for name in names]
     return sorted(found)
 
 

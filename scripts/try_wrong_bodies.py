@@ -16,12 +16,15 @@ In a round an edit is refused where the prover says that something of its own fu
 one that isn't proved is not enough. What comes to no answer beside others is tried again, at last by itself, on the whole crate, where
 any function may be refused for it. So is, from the start, an edit that stands in no function or in several.
 
-The libraries below a crate have to stand proved in FOLDER, a checkout of the same text in which `rt ci` has run, or `rt check` in the
-crate's folder (this one, where none is given). So many crates are tried side by side as --jobs says (as there are processors). With --said what the prover said in
-each check goes to a file, with the seconds since its begin. A crate whose edits were all refused is noted, and isn't tried again over
-the same files. Ends with 1 where an edit isn't refused, or can't be applied.
+An edit is told that is refused for no clause: where a proof names what the edit took away, or the prover doesn't cover the edited
+function. It counts as refused, as with rt, and wants mending.
 
-With --compile nothing is proved: it tells in seconds which edits don't compile, and so say nothing of a contract.
+The libraries below a crate have to stand proved in FOLDER, a checkout of the same text in which `rt ci` has run, or `rt check` in the
+crate's folder (this one, where none is given). So many crates are tried side by side as --jobs says (as there are processors). With
+--said what the prover said in each check goes to a file, with the seconds since its begin. A crate whose edits were all refused is
+noted, and isn't tried again over the same files. Ends with 1 where an edit isn't refused, can't be applied, or can't be tried.
+
+With --compile nothing is proved: it tells sooner which edits don't compile, and so say nothing of a contract.
 """
 import argparse
 import concurrent.futures
@@ -45,6 +48,8 @@ EDITS = f"{TOP}/wrong-bodies"
 VERDICT = re.compile(r"fn (\S+): (proved|no proof|not proved|could not tell)\b:? ?(.*)")
 # Where the prover finds something wrong.
 PLACE = re.compile(r"(?:note: )?(?:\./)?((?:src|specs|proofs)/\S+?):(\d+):\d+: (.*)")
+# What the prover says of a goal that is open.
+UNPROVED = re.compile(r"it is not proved that|error")
 # The type behind `impl`, or the trait and the type.
 OWNER = re.compile(r"(?:<.*> )?(?:(\w+)(?:<.*>)?|(\w+) for (\w+)(?:<.*>)?)")
 # What is said of a proof that names what an edit took away.
@@ -56,37 +61,24 @@ BAD, UNSURE = "BAD EDIT", "no answer"
 
 
 class Edit:
-    """A wrong body of a crate."""
+    """A wrong body of a crate: its name, why it can't be applied, if so, the functions in which it stands, the new texts of the files that it
+    changes, and what came of it."""
 
     def __init__(self, path, folder):
-        self.path, self.name, self.found = path, os.path.basename(path), None
-        self.why, self.stands = check_wrong_bodies.apply(path, folder)
-        self.pairs = pairs_of(path)
+        self.name, self.came = os.path.basename(path), None
+        self.fault, self.stands, self.texts = check_wrong_bodies.apply(path, folder)
 
     def function(self):
         """The file and the name of the function in which it stands, if it stands in one alone whose name for the prover is known."""
-        file, name = next(iter(self.stands), ("", ""))
-        is_one = len(self.stands) == 1 and all(it == file for it, _, _ in self.pairs)
-        return (file, name) if is_one and path_of(name) else None
-
+        if len(self.stands) != 1:
+            return None
+        file, name = next(iter(self.stands))
+        return (file, name) if name and path_of(name) else None
 
     def path_of_function(self):
         """The path of that function below the crate."""
         file, name = self.function()
         return "::".join([*modules_of(file), *path_of(name)])
-
-
-def pairs_of(path):
-    """The file, the old text and the new text of each pair of an edit."""
-    file, old, pairs = None, None, []
-    for line in check_wrong_bodies.read(path).split("\n"):
-        if line.startswith("file: "):
-            file = line.removeprefix("file: ").strip()
-        elif line.startswith("old: "):
-            old = line.removeprefix("old: ")
-        elif line.startswith("new:"):
-            pairs.append((file, old, line.removeprefix("new:").removeprefix(" ")))
-    return pairs
 
 
 def rounds_of(edits):
@@ -143,10 +135,10 @@ class Answers:
 
     def of_function(self, crate, file, name, first, last):
         """What came of an edit of the function that stands in these lines of a source."""
-        own = [it for it in self.places if it[1] == file and first <= int(it[2]) <= last]
+        own = [it for it in self.places if it[1] == file and first <= int(it[2]) <= last and UNPROVED.search(it[3])]
         place = "/".join(["proofs", *modules_of(file), "(fn/)?" + "/".join(path_of(name)), ""])
         cited = [it for it in self.places if re.match(place, it[1])]
-        strong = own + [it for it in cited if not NAMES.search(it[3])]
+        strong = own + [it for it in cited if "error" in it[3] and not NAMES.search(it[3])]
         if strong:
             return REFUSED, strong[0][0]
         if cited:
@@ -170,8 +162,7 @@ class Trial:
 
     def words(self, only):
         """The prover's command, for the functions of these paths, or for the whole crate."""
-        kit = os.path.dirname(subprocess.run(["rt", "doc"], stdout=subprocess.PIPE, text=True, check=True).stdout.strip())
-        named, below = sources.named_crates(), [it for it in sources.crates_below(self.crate) if it != self.crate]
+        kit, named, below = sources.kit(), sources.named_crates(), [it for it in sources.crates_below(self.crate) if it != self.crate]
         root = "src/main.rt" if os.path.isfile(f"{self.folder}/src/main.rt") else "src/lib.rt"
         words = [f"{kit}/bin/rattle", "check", "--crate-name", self.crate, root, "-L", f"dependency={kit}/rlibs"]
         for name in ["std", *named[self.crate]]:
@@ -190,19 +181,12 @@ class Trial:
             if os.path.isdir(f"{self.folder}/{part}"):
                 shutil.copytree(f"{self.folder}/{part}", f"{self.room}/{part}")
         for edit in edits:
-            for file, lines in self.edited(edit).items():
-                was = check_wrong_bodies.read(f"{self.room}/{file}").split("\n")
+            for file, text in edit.texts.items():
+                # Each new text is one line in the place of one line: the lines of its function are those of before.
+                was, lines = check_wrong_bodies.read(f"{self.room}/{file}").split("\n"), text.split("\n")
                 first, last = self.lines_of(edit) if edit.function() else (1, len(lines))
                 with open(f"{self.room}/{file}", "w", encoding="utf-8") as it:
                     it.write("\n".join(was[: first - 1] + lines[first - 1 : last] + was[last:]))
-
-    def edited(self, edit):
-        """The lines of the files that an edit changes, as it leaves them. Each new text is one line in the place of one line."""
-        texts = {}
-        for file, old, new in edit.pairs:
-            text = texts.get(file) or check_wrong_bodies.read(f"{self.folder}/{file}")
-            texts[file] = text.replace(old, new)
-        return {file: text.split("\n") for file, text in texts.items()}
 
     def check(self, edits, only):
         """Checks the functions of these paths, or the whole crate, with these edits."""
@@ -244,7 +228,7 @@ class Trial:
         """Tries edits in one check, and notes what came of each."""
         answers = self.check(edits, [] if is_whole else [it.path_of_function() for it in edits])
         for edit in edits:
-            edit.found = self.answer(edit, answers, len(edits) == 1)
+            edit.came = self.answer(edit, answers, len(edits) == 1)
 
     def attempt_all(self, edits):
         """Tries edits together; those that came to no answer again, as long as that brings one. Each that isn't refused is then tried by
@@ -252,12 +236,12 @@ class Trial:
         left = [it for it in edits if it.function()]
         while left:
             self.attempt(left)
-            unsure = [it for it in left if it.found[0] == UNSURE]
+            unsure = [it for it in left if it.came[0] == UNSURE]
             if len(unsure) == len(left):
                 break
             left = unsure
         for edit in edits:
-            if not edit.function() or edit.found[0] in (UNSURE, PROVED):
+            if not edit.function() or edit.came[0] in (UNSURE, PROVED):
                 self.attempt([edit], True)
 
     def compile_all(self, edits):
@@ -267,25 +251,25 @@ class Trial:
             answers = self.check(left, [""])
             wrong = [(edit, it) for edit in left for it in answers.places if "error[" in it[0] and (len(left) == 1 or self.stands_in(edit, it))]
             for edit, place in wrong:
-                edit.found = BAD, place[0]
+                edit.came = BAD, place[0]
             if answers.is_whole() or not wrong:
                 break
-            left = [it for it in left if not it.found]
+            left = [it for it in left if not it.came]
         for edit in left:
-            edit.found = edit.found or ((COMPILES, "") if answers.is_whole() else (UNSURE, answers.lines[-1]))
+            edit.came = edit.came or ((COMPILES, "") if answers.is_whole() else (UNSURE, answers.lines[-1]))
 
     def run(self, paths, compiles):
         """Tries or compiles all edits, tells what is wrong with any, and gives how many were refused, or do compile."""
         edits = [Edit(it, self.folder) for it in sorted(paths)]
         for edit in edits:
-            if edit.why:
-                edit.found = BAD, edit.why
-        for those in rounds_of([it for it in edits if not it.why]):
+            if edit.fault:
+                edit.came = BAD, edit.fault
+        for those in rounds_of([it for it in edits if not it.fault]):
             (self.compile_all if compiles else self.attempt_all)(those)
-        good = [it for it in edits if it.found[0] in (REFUSED, WEAK, COMPILES)]
+        good = [it for it in edits if it.came[0] in (REFUSED, WEAK, COMPILES)]
         for edit in edits:
-            if edit.found[0] not in (REFUSED, COMPILES):
-                print(f"{self.crate}/{edit.name}: {edit.found[0]}: {edit.found[1][:300]}", flush=True)
+            if edit.came[0] not in (REFUSED, COMPILES):
+                print(f"{self.crate}/{edit.name}: {edit.came[0]}: {edit.came[1][:300]}", flush=True)
         what = "compile" if compiles else "refused"
         print(f"{self.crate}: {len(good)} of {len(edits)} {what}, in {self.checks} checks and {self.seconds:.0f} s of a processor", flush=True)
         return len(good)
@@ -305,16 +289,14 @@ def edits_of(crate, with_gate):
 
 
 def sum_of(crate, paths):
-    """A sum of all on which the answers of a crate's edits depend."""
-    files = [f"{TOP}/{it}" for it in sources.files_of(sources.crates_below(crate), sources.PARTS)] + paths
-    total = hashlib.sha256(subprocess.run(["rt", "version"], stdout=subprocess.PIPE, stderr=subprocess.STDOUT).stdout)
-    for file in sorted(files):
-        with open(file, "rb") as it:
-            total.update(f"{os.path.relpath(file, TOP)} {hashlib.sha256(it.read()).hexdigest()}\n".encode())
-    return total.hexdigest()
+    """A sum of all on which the answers of a crate's edits depend, this script among them."""
+    scripts = [f"scripts/{it}.py" for it in ("check_wrong_bodies", "try_wrong_bodies")]
+    files = sources.files_of(sources.crates_below(crate), sources.PARTS) + scripts + [os.path.relpath(it, TOP) for it in paths]
+    kit = subprocess.run(["rt", "version"], stdout=subprocess.PIPE, stderr=subprocess.STDOUT, text=True).stdout
+    return hashlib.sha256((kit + sources.sums_of(sorted(files))).encode()).hexdigest()
 
 
-def tried(crate, asked, kept):
+def try_crate(crate, asked, kept):
     """Tries a crate's edits, or takes what is noted of them. Gives how many there are, and how many are as they should be."""
     paths = edits_of(crate, asked.with_gate)
     note, total = f"{kept}/tried-{crate}", sum_of(crate, paths)
@@ -344,10 +326,16 @@ def main():
     reader.add_argument("--since", default="origin/main")
     reader.add_argument("crates", nargs="*")
     asked = reader.parse_args()
+    unknown = [it for it in asked.crates if it not in sources.crates_below_all()]
+    if unknown:
+        reader.error(f"there is no crate {unknown[0]}")
     crates = sources.crates_below_all() if asked.all else asked.crates or touched_since(asked.since)
     crates = sorted((it for it in crates if edits_of(it, asked.with_gate)), key=lambda it: -proving.lines_of(TOP, it))
+    if not crates:
+        print("none of these crates has wrong bodies" if asked.crates else "no crate with wrong bodies was touched")
+        return 0
     with proving.cache_room() as kept, concurrent.futures.ThreadPoolExecutor(asked.jobs) as pool:
-        counts = list(pool.map(lambda it: tried(it, asked, kept), crates))
+        counts = list(pool.map(lambda it: try_crate(it, asked, kept), crates))
     every, good = sum(it[0] for it in counts), sum(it[1] for it in counts)
     print(f"{good} of {every} {'compile' if asked.compile else 'refused'}")
     return 0 if good == every else 1
