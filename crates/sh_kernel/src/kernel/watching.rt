@@ -9,6 +9,7 @@ use sh_base::NoMemory;
 impl Kernel {
     ghost use Rattle.sh_kernel.specs.State.{KernelState, StandsAt};
     ghost use Rattle.sh_kernel.specs.Watching.{AgreesWith, Holds, is_blocked};
+    ghost use Rattle.sh_kernel_processes.specs.Processes.{lives};
 
     /// Whether a process can't take a turn for this cause.
     #[tactic(auto, unfolding(crate::specs::Turns::can_do))]
@@ -40,9 +41,10 @@ impl Kernel {
     pub fn find_living(&mut self, pid: u32) -> Result<bool, NoMemory>
         ensures state { (s : KernelState) → StandsAt self.old s → StandsAt self.new s }
         ensures terminal { self.new.terminal ≡ self.old.terminal }
-        ensures watch { IfOk result (λ lives. self.new.watch
-            ≡ (if lives then record self.old.watch { living = self.old.watch.living ++ pid ∷ [] } else self.old.watch)) }
-        ensures current { IfOk result (λ lives. self.new.is_current ≡ self.old.is_current) }
+        ensures answer { (s : KernelState) → StandsAt self.old s → IfOk result (λ is_found. is_found ≡ lives s.machine.processes pid) }
+        ensures watch { IfOk result (λ is_found. self.new.watch
+            ≡ (if is_found then record self.old.watch { living = self.old.watch.living ++ pid ∷ [] } else self.old.watch)) }
+        ensures current { IfOk result (λ is_found. self.new.is_current ≡ self.old.is_current) }
         ensures lack { IsErr result → self.new.is_current ≡ false }
     {
         if !self.machine.lives(pid) {
@@ -62,6 +64,7 @@ impl Kernel {
     pub fn find_blocked(&mut self, pid: u32, cause: Cause) -> Result<bool, NoMemory>
         ensures state { (s : KernelState) → StandsAt self.old s → StandsAt self.new s }
         ensures terminal { self.new.terminal ≡ self.old.terminal }
+        ensures answer { (s : KernelState) → StandsAt self.old s → IfOk result (λ blocked. blocked ≡ is_blocked s pid cause) }
         ensures watch { IfOk result (λ blocked. self.new.watch
             ≡ (if blocked then record self.old.watch { blocked = self.old.watch.blocked ++ (record { pid = pid; cause = cause }) ∷ [] } else self.old.watch)) }
         ensures current { IfOk result (λ blocked. self.new.is_current ≡ self.old.is_current) }
