@@ -1,10 +1,7 @@
--- Built-ins as they are run: by their name, or by `command`, behind which an error of a special built-in doesn't end the shell (XCU command,
--- 2.8.1), and assignments before it don't stay (2.15).
+-- Built-ins as they are run: an error of a special built-in that `command` runs doesn't end the shell (XCU command, 2.8.1).
 use Rattle.std.specs.Prelude.{ℕ, List, Bool, true, false}
-use Rattle.sh_builtin_outcome.specs.Builtins.{is_special}
 use Rattle.sh_builtin.specs.Running.{BuiltIn, built_in, with_outcome}
-use Rattle.sh_builtin_outcome.specs.declared.builtin.Builtin.{Builtin}
-use Rattle.sh_builtin.specs.declared.invocation.Invocation.{Invocation}
+use Rattle.sh_builtin_outcome.specs.declared.invocation.Invocation.{Invocation}
 use Rattle.sh_builtin_outcome.specs.declared.outcome.Completion.{Completion}
 use Rattle.sh_builtin_outcome.specs.declared.outcome.Completion.TheVariants.{Continues, Done, Kills, Left, Runs, Reads, Waits}
 use Rattle.sh_builtin_outcome.specs.declared.outcome.Leave.{Leave}
@@ -12,12 +9,6 @@ use Rattle.sh_builtin_outcome.specs.declared.outcome.Leave.TheVariants as leave
 use Rattle.sh_builtin_outcome.specs.declared.outcome.Outcome.{Outcome}
 use Rattle.sh_builtin_shell.specs.declared.shell.Shell.{Shell}
 use Rattle.sh_kernel.specs.State.{KernelState}
-
-abbrev pub by_name : Builtin → Invocation
-by_name builtin = record { builtin = builtin; is_special = is_special builtin }
-
-abbrev pub by_command : Builtin → Invocation
-by_command builtin = record { builtin = builtin; is_special = false }
 
 -- ---- an error of one that isn't special is its status, and so is one that refuses a text that it has run
 abbrev pub regular_leave : Leave → Completion

@@ -3,11 +3,3 @@ pub mod Commands
 pub mod Invocations
 pub mod Loops
 pub mod Running
-pub use Rattle.sh_builtin_outcome.specs.Builtins
-pub use Rattle.sh_builtin_outcome.specs.Outcomes
-pub use Rattle.sh_builtin_outcome.specs.declared.builtin.Builtin
-pub use Rattle.sh_builtin_outcome.specs.declared.outcome.Leave
-pub use Rattle.sh_builtin_outcome.specs.declared.outcome.Outcome
-pub use Rattle.sh_builtin_outcome.specs.declared.outcome.TextOrigin
-pub use Rattle.sh_builtin_outcome.specs.declared.outcome.TextRun
-pub use Rattle.sh_builtin_shell.specs.Functions

@@ -1,7 +1,7 @@
 //! The built-in `command` (XCU command).
-ghost use Rattle.std.specs.Prelude.{◌≡◌, IfOk, codes, option_map};
+ghost use Rattle.std.specs.Prelude.{◌≡◌, IfOk, codes};
 ghost use Rattle.sh_aliases.specs.Aliases.{alias_named};
-ghost use Rattle.sh_builtin.specs.Commands.{alias_text, behind_command, command_found, command_outcome, description, description_by, is_own, last_behind, program_path, told, told_of, words_behind, words_run};
+ghost use Rattle.sh_builtin.specs.Commands.{alias_text, command_found, command_outcome, description, description_by, is_own, program_path, told, told_of};
 ghost use Rattle.sh_builtin_environment.specs.Options.{options_and_operands};
 ghost use Rattle.sh_files_image.specs.Paths.{absolute};
 
@@ -11,71 +11,11 @@ use sh_base::NoMemory;
 use sh_base::sequence::Text;
 use sh_builtin_environment::parse_options;
 use sh_builtin_outcome::{Builtin, Outcome};
-use sh_builtin_shell::{Functions, Shell};
+use sh_builtin_shell::Shell;
 use sh_files::{Files, executable_path};
 use sh_files_image::absolute;
 use sh_token_grammar::class::is_reserved;
 use std::alloc::Global;
-
-/// The words that `command` runs with these arguments.
-fn words_run(arguments: &[Text]) -> Option<&[Text]>
-    ensures { option_map (λ words. words.now) result
-        ≡ words_run (options_and_operands (codes "v") arguments.now) }
-{
-    match parse_options(b"v", arguments) {
-        Some((None, operands)) => match operands.split_first() {
-            Some(_) => Some(operands),
-            None => None,
-        },
-        _ => None,
-    }
-}
-
-/// The words of the command that these words have `command` run.
-fn words_behind(words: &[Text]) -> Option<&[Text]>
-    ensures { option_map (λ words. words.now) result ≡ words_behind words.now }
-{
-    match words.split_first() {
-        Some((name, arguments)) => {
-            if !Builtin::Command.is_named(name.as_slice()) {
-                return None;
-            }
-            words_run(arguments)
-        },
-        None => None,
-    }
-}
-
-/// The words behind at most so many `command` that run another command.
-fn last_behind<'a>(at_most: &[Text], words: &'a [Text]) -> &'a [Text]
-    ensures { result.now ≡ last_behind at_most.now words.now }
-{
-    let mut left = at_most;
-    let mut rest = words;
-    'commands: while let Some((_, others)) = left.split_first() {
-        let Some(behind) = words_behind(rest) else {
-            return rest;
-        };
-        rest = behind;
-        left = others;
-    }
-    rest
-}
-
-/// The words of the command that `command` runs, where these are the words of a simple command: behind the last `command`, if it runs
-/// another one. `None` where the words don't begin with `command`, or have an option or no operand behind it: then it is a built-in like
-/// any other. `None` too where a function has that name, which is found before it. Takes no memory.
-pub fn behind_command<'a>(functions: &Functions, words: &'a [Text]) -> Option<&'a [Text]>
-    ensures { option_map (λ words. words.now) result ≡ behind_command functions.now words.now }
-{
-    if functions.body(Builtin::Command.name()).is_some() {
-        return None;
-    }
-    match words_behind(words) {
-        Some(behind) => Some(last_behind(words, behind)),
-        None => None,
-    }
-}
 
 /// Whether a name is one of a function or a built-in.
 fn is_own(shell: &Shell, name: &[u8]) -> bool

@@ -1,25 +1,16 @@
 //! Built-ins as they are run.
 ghost use Rattle.std.specs.Prelude.{◌≡◌, IfOk};
-ghost use Rattle.sh_builtin.specs.Invocations.{by_command, by_name, invoked, outcome_as, regular_completion, regular_leave};
+ghost use Rattle.sh_builtin.specs.Invocations.{invoked, outcome_as, regular_completion, regular_leave};
 ghost use Rattle.sh_builtin.specs.Running.{with_outcome};
 ghost use Rattle.sh_kernel.specs.State.{KernelState, StandsAt};
 
 use crate::running::run;
 use sh_base::NoMemory;
 use sh_base::sequence::Text;
-use sh_builtin_outcome::{Builtin, Completion, Leave, Outcome, TextRun};
+use sh_builtin_outcome::{Completion, Invocation, Leave, Outcome, TextRun};
 use sh_builtin_shell::Shell;
 use sh_kernel::Kernel;
 use std::alloc::Global;
-
-/// A built-in utility as it is run.
-#[derive(Clone, Copy, Debug, PartialEq, Eq)]
-pub struct Invocation {
-    pub builtin: Builtin,
-    /// Whether it is run as a special built-in (XCU 2.15): its errors end a shell that isn't interactive, and assignments before it stay.
-    /// None is that `command` runs.
-    pub is_special: bool,
-}
 
 /// How a built-in that isn't run as a special one ends, where it leaves commands.
 fn regular_leave(leave: Leave) -> Completion
@@ -74,42 +65,20 @@ fn outcome_as(is_special: bool, outcome: Outcome) -> Outcome
     }
 }
 
-impl Invocation {
-    /// A built-in that is run by its name. Takes no memory.
-    pub fn by_name(builtin: Builtin) -> Self
-        ensures { result ≡ by_name builtin }
-    {
-        Invocation {
-            builtin,
-            is_special: builtin.is_special(),
-        }
-    }
-
-    /// A built-in that `command` runs (XCU command). Takes no memory.
-    pub fn by_command(builtin: Builtin) -> Self
-        ensures { result ≡ by_command builtin }
-    {
-        Invocation {
-            builtin,
-            is_special: false,
-        }
-    }
-
-    /// What the built-in does, as [`run`] says, and what it comes to: one that isn't run as a special one leaves no shell by an
-    /// error. The only error is want of memory; what the shell is then is left open.
-    #[tactic(auto, unfolding(crate::specs::Invocations::invoked))]
-    pub fn run(
-        self,
-        alloc: Global,
-        kernel: &Kernel,
-        shell: &mut Shell,
-        last: u8,
-        arguments: &[Text],
-    ) -> Result<Outcome, NoMemory>
-        ensures { (s : KernelState) → StandsAt kernel.now s → IfOk result (λ outcome.
-            with_outcome shell.new outcome ≡ invoked s shell.old last self arguments.now) }
-    {
-        let outcome = run(alloc, kernel, shell, last, self.builtin, arguments)?;
-        Ok(outcome_as(self.is_special, outcome))
-    }
+/// What a built-in does, as [`run`] says, and what it comes to as it is run: one that isn't run as a special one leaves no shell by an
+/// error. The only error is want of memory; what the shell is then is left open.
+#[tactic(auto, unfolding(crate::specs::Invocations::invoked))]
+pub fn invoke(
+    alloc: Global,
+    kernel: &Kernel,
+    shell: &mut Shell,
+    last: u8,
+    invocation: Invocation,
+    arguments: &[Text],
+) -> Result<Outcome, NoMemory>
+    ensures { (s : KernelState) → StandsAt kernel.now s → IfOk result (λ outcome.
+        with_outcome shell.new outcome ≡ invoked s shell.old last invocation arguments.now) }
+{
+    let outcome = run(alloc, kernel, shell, last, invocation.builtin, arguments)?;
+    Ok(outcome_as(invocation.is_special, outcome))
 }

@@ -14,11 +14,6 @@ mod running;
 mod testing;
 mod waiting;
 
-pub use command::behind_command;
-pub use invocation::Invocation;
+pub use invocation::invoke;
 pub use killing::job_control;
 pub use running::run;
-pub use sh_builtin_outcome::{
-    Awaited, Builtin, Completion, Continuation, KillAsk, Leave, LineReader, TextOrigin, TextRun,
-};
-pub use sh_builtin_shell::Functions;

@@ -1,6 +1,9 @@
 pub mod Builtins
+pub mod CommandWords
+pub mod Invocations
 pub mod Messages
 pub mod Outcomes
+pub use Rattle.sh_builtin_shell.specs.Functions
 pub use Rattle.sh_builtin_wait.specs.Waits
 pub use Rattle.sh_builtin_wait.specs.declared.command.WaitStart
 pub use Rattle.sh_builtin_wait.specs.declared.run.Awaited

@@ -1,11 +1,9 @@
 pub mod Beginnings
 pub mod Preparing
 pub mod Statuses
-pub use Rattle.sh_builtin.specs.Invocations
-pub use Rattle.sh_builtin.specs.Leave
-pub use Rattle.sh_builtin.specs.Outcome
-pub use Rattle.sh_builtin.specs.Outcomes
-pub use Rattle.sh_builtin.specs.Running
-pub use Rattle.sh_builtin.specs.TextOrigin
-pub use Rattle.sh_builtin.specs.TextRun
-pub use Rattle.sh_builtin.specs.declared.invocation.Invocation
+pub use Rattle.sh_builtin_outcome.specs.Outcomes
+pub use Rattle.sh_builtin_outcome.specs.declared.invocation.Invocation
+pub use Rattle.sh_builtin_outcome.specs.declared.outcome.Leave
+pub use Rattle.sh_builtin_outcome.specs.declared.outcome.Outcome
+pub use Rattle.sh_builtin_outcome.specs.declared.outcome.TextOrigin
+pub use Rattle.sh_builtin_outcome.specs.declared.outcome.TextRun

@@ -2,13 +2,13 @@
 use Rattle.std.specs.Prelude.{ℕ, List, [], ◌∷◌, ◌||◌, not, Bool, true, false, Option, Some, None, length, if◌then◌else◌, unwrap_or}
 use Rattle.sh_exec_actions.specs.Statuses as statuses
 use Rattle.std.specs.List.{list_any}
-use Rattle.sh_builtin.specs.Builtins.{builtin_of, is_named, is_special}
-use Rattle.sh_builtin.specs.Commands.{behind_command}
-use Rattle.sh_builtin.specs.Functions.{Named, body_of}
-use Rattle.sh_builtin.specs.Invocations.{by_command, by_name}
-use Rattle.sh_builtin.specs.Builtin.{Builtin}
-use Rattle.sh_builtin.specs.Builtin.TheVariants.{Exec}
-use Rattle.sh_builtin.specs.declared.invocation.Invocation.{Invocation}
+use Rattle.sh_builtin_outcome.specs.Builtins.{builtin_of, is_named, is_special}
+use Rattle.sh_builtin_outcome.specs.CommandWords.{behind_command}
+use Rattle.sh_builtin_outcome.specs.Functions.{Named, body_of}
+use Rattle.sh_builtin_outcome.specs.Invocations.{by_command, by_name}
+use Rattle.sh_builtin_outcome.specs.declared.builtin.Builtin.{Builtin}
+use Rattle.sh_builtin_outcome.specs.declared.builtin.Builtin.TheVariants.{Exec}
+use Rattle.sh_builtin_outcome.specs.declared.invocation.Invocation.{Invocation}
 use Rattle.sh_builtin_environment.specs.Options.{Parsed, options_and_operands}
 use Rattle.sh_exec_parts.specs.Messages.{message, not_redirected}
 use Rattle.sh_exec_parts.specs.Redirections.{redirections_of}

@@ -3,7 +3,7 @@ use crate::beginning::Beginning;
 use crate::status::CommandStatus;
 use sh_base::sequence::{Sequence, Text};
 use sh_base::shared::Shared;
-use sh_builtin::{
+use sh_builtin_outcome::{
     Awaited, Builtin, Completion, Continuation, Invocation, KillAsk, Leave, LineReader, TextRun,
 };
 use sh_exec_machine::Undone;

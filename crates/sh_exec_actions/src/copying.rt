@@ -8,7 +8,7 @@ use crate::action::{
 use sh_base::NoMemory;
 use sh_base::sequence::{Sequence, Text, copies_of};
 use sh_base::shared::Shared;
-use sh_builtin::{Completion, Continuation};
+use sh_builtin_outcome::{Completion, Continuation};
 use sh_exec_machine::Undone;
 use sh_exec_parts::message::Piece;
 use sh_exec_parts::{Copying, Queue, copy_all};

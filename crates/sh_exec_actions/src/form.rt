@@ -7,7 +7,7 @@ use crate::suspended::Suspended;
 use sh_base::NoMemory;
 use sh_base::sequence::{Sequence, Text, copies_of};
 use sh_base::shared::Shared;
-use sh_builtin::TextRun;
+use sh_builtin_outcome::TextRun;
 use sh_exec_parts::{Copying, Queue, Rest};
 use sh_syntax::tree::{CompoundList, Connected, ElseIf, ListItem, LoopKind};
 use std::alloc::Global;

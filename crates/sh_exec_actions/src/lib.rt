@@ -20,6 +20,6 @@ pub use form::{Branches, Form, Frame, Loop};
 pub use preparing::{
     begin_command, failing, first_place, go_ahead, no_undo, not_done, perform, prepare,
 };
-pub use sh_builtin::{Invocation, Leave, TextOrigin, TextRun, job_control};
+pub use sh_builtin_outcome::{Invocation, Leave, TextOrigin, TextRun};
 pub use status::CommandStatus;
 pub use suspended::Suspended;

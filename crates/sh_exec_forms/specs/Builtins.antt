@@ -1,7 +1,7 @@
 -- A built-in acts or a function is called, in the turn of the last of what comes before it (2.9.1.4), and a text that is to be run is
 -- entered (2.15 dot, eval).
 use Rattle.std.specs.Prelude.{ℕ, zero, suc, List, drop}
-use Rattle.sh_exec_actions.specs.Invocations.{invoked}
+use Rattle.sh_exec_requests.specs.Invocations.{invoked}
 use Rattle.sh_exec_actions.specs.TextRun.{TextRun}
 use Rattle.sh_exec_actions.specs.Invocation.{Invocation}
 use Rattle.sh_builtin_shell.specs.declared.shell.Shell.{Shell}

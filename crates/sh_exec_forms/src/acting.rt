@@ -18,7 +18,7 @@ use sh_exec_command::fatal_message;
 use sh_exec_entering::{Frames, Step, enter_command};
 use sh_exec_parts::Rest;
 use sh_exec_parts::message::{Refusal, refused};
-use sh_exec_requests::{behind, heed_traps};
+use sh_exec_requests::{behind, heed_traps, invoke};
 use sh_kernel::Kernel;
 use sh_syntax::tree::Command;
 use std::alloc::Global;
@@ -160,7 +160,7 @@ fn build(
     ensures watch { kernel.new.watch ≡ kernel.old.watch }
 {
     let last = frames.last_for(invocation.builtin, shell.vars.status());
-    let outcome = invocation.run(alloc, kernel, shell, last, arguments_of(fields))?;
+    let outcome = invoke(alloc, kernel, shell, last, invocation, arguments_of(fields))?;
     heed_traps(kernel, shell, outcome.signals);
     let step = step_at(alloc, shell, frames, behind(invocation.builtin, outcome))?;
     Ok(step)

@@ -3,7 +3,7 @@
 use Rattle.std.specs.Prelude.{ℕ, List, [], ◌∷◌, ◌&&◌, Bool, true, false, nat_eq, not, Option, Some, None, Result, Ok, Err, if◌then◌else◌}
 use Rattle.std.specs.List.{list_any}
 use Rattle.std.specs.Option.{is_some, option_and_then, option_map_or}
-use Rattle.sh_exec_actions.specs.Running.{control_of}
+use Rattle.sh_builtin.specs.Running.{control_of}
 use Rattle.sh_builtin_outcome.specs.declared.outcome.Completion.TheVariants as completion
 use Rattle.sh_builtin_shell.specs.Shells.{has_job_control, is_interactive, up_to_date}
 use Rattle.sh_builtin_shell.specs.declared.shell.Shell.{Shell}

@@ -16,6 +16,7 @@ pub use continuing::{continue_turn, job_wait_turn};
 pub use line::{most_read, read_line_turn};
 pub use prompting::{input_action, prompt_turn};
 pub use reporting::behind;
+pub use sh_builtin::invoke;
 pub use signals::{
     finish_drop, heed_own_signals, heed_traps, is_dropping, is_interrupt_next, pending_action,
     pending_signal, release_own_signals, signal_turn,

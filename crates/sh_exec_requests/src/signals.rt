@@ -1,6 +1,6 @@
 //! The signals of a shell's process.
 ghost use Rattle.std.specs.Prelude.{◌≡◌, [], IfOk, OnOk, option_map};
-ghost use Rattle.sh_exec_actions.specs.Running.{control_of};
+ghost use Rattle.sh_builtin.specs.Running.{control_of};
 ghost use Rattle.sh_builtin_environment.specs.TrapMaps.{action_of};
 ghost use Rattle.sh_builtin_jobs.specs.KillRuns.{kill_next};
 ghost use Rattle.sh_exec_requests.specs.Placed.{IsPlaced};
@@ -10,10 +10,11 @@ ghost use Rattle.sh_signal.specs.declared.condition.Condition.TheVariants as con
 
 use crate::reporting::reported;
 use sh_base::NoMemory;
+use sh_builtin::job_control;
 use sh_builtin_jobs::{KillAsk, KillStep};
 use sh_builtin_outcome::Completion;
 use sh_builtin_shell::Shell;
-use sh_exec_actions::{Action, Active, Report, job_control};
+use sh_exec_actions::{Action, Active, Report};
 use sh_exec_parts::Queue;
 use sh_jobs::JobFault;
 use sh_kernel::{Kernel, KernelFault};

@@ -37,9 +37,9 @@ use Rattle.sh_exec_command.specs.declared.series.Round.{Round}
 use Rattle.sh_exec_command.specs.declared.series.Round.TheVariants as round
 use Rattle.sh_exec_parts.specs.Messages.{read_only}
 use Rattle.sh_builtin_outcome.specs.Builtins.{builtin_of, is_named, is_special}
-use Rattle.sh_builtin.specs.Invocations.{by_command, by_name}
-use Rattle.sh_builtin.specs.declared.invocation.Invocation.{Invocation}
-use Rattle.sh_builtin.specs.Commands.{behind_command}
+use Rattle.sh_builtin_outcome.specs.Invocations.{by_command, by_name}
+use Rattle.sh_builtin_outcome.specs.declared.invocation.Invocation.{Invocation}
+use Rattle.sh_builtin_outcome.specs.CommandWords.{behind_command}
 use Rattle.sh_builtin_shell.specs.Functions.{Named, body_of, has_name}
 use Rattle.sh_builtin_outcome.specs.declared.builtin.Builtin.{Builtin}
 use Rattle.sh_builtin_outcome.specs.declared.builtin.Builtin.TheVariants.{Exec}
