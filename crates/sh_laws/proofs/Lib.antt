@@ -47,4 +47,5 @@ pub mod ShellTurns
 pub mod ProcessTurns
 pub mod StandingRuns
 pub mod Terminals
+pub mod Rewritten
 pub mod Releasing

@@ -9,3 +9,4 @@ pub mod Standing
 pub mod Beginnings
 pub mod BeforeAction
 pub mod Terminals
+pub mod Rewritten

@@ -1,5 +1,5 @@
 -- Whose the terminal is.
-use Rattle.std.specs.Prelude.{◌≡◌, ◌⊎◌, ℕ, List, Some}
+use Rattle.std.specs.Prelude.{◌≡◌, ◌⊎◌, ℕ, false, List, Some}
 use Rattle.sh_builtin_shell.specs.Shells.{own_group}
 use Rattle.sh_builtin_shell.specs.declared.shell.Shell.{Shell}
 use Rattle.sh_exec_actions.specs.declared.action.Action.TheVariants.{WaitForJob}
@@ -8,6 +8,7 @@ use Rattle.sh_exec_actions.specs.declared.action.JobWait.{JobWait}
 use Rattle.sh_exec_requests.specs.Continuing.{job_wait_turn}
 use Rattle.sh_exec_requests.specs.Placed.{at_place}
 use Rattle.sh_exec_requests.specs.Waiting.{wait_turn, waiting}
+use Rattle.sh_jobs.specs.States.{any_runs}
 use Rattle.sh_kernel.specs.State.{KernelState}
 
 -- a wait for a pipeline with job control goes on, or the shell's group is the foreground group behind it
@@ -23,3 +24,14 @@ GivesJobsTerminalBack =
     (s : KernelState) (shell : Shell) (wait : JobWait)
     → let p = job_wait_turn s shell wait in
     (p ≡ at_place s shell (Next (WaitForJob wait))) ⊎ (p.machine.foreground ≡ own_group s shell.pid)
+
+-- where none of the processes of the pipeline runs any more, the wait's turn gives the terminal back
+abbrev pub GivesTerminalBackAtRest : Type 0
+GivesTerminalBackAtRest =
+    (s : KernelState) (shell : Shell) (children text : List ℕ) → any_runs s.machine.processes children ≡ false
+    → (wait_turn s shell (record { children = children; job = Some text })).machine.foreground ≡ own_group s shell.pid
+
+abbrev pub GivesJobsTerminalBackAtRest : Type 0
+GivesJobsTerminalBackAtRest =
+    (s : KernelState) (shell : Shell) (wait : JobWait) → any_runs s.machine.processes wait.processes ≡ false
+    → (job_wait_turn s shell wait).machine.foreground ≡ own_group s shell.pid

@@ -2,6 +2,7 @@
 //! what a shell and its turns ask of the kernel, and what those requests change.
 #![tactic(auto)]
 
+pub mod aliases;
 pub mod files;
 pub mod reading;
 pub mod requests;

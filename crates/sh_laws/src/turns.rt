@@ -15,7 +15,7 @@ ghost use Rattle.sh_laws.specs.Requests.{ByRequests, ChangesByRequests, ComesByC
 ghost use Rattle.sh_exec.specs.State.{State, run, start};
 ghost use Rattle.sh_exec.specs.declared.event.Event.{Event};
 ghost use Rattle.sh_exec.specs.declared.settings.Settings.{Settings};
-ghost use Rattle.sh_laws.specs.Terminals.{GivesJobsTerminalBack, GivesTerminalBack};
+ghost use Rattle.sh_laws.specs.Terminals.{GivesJobsTerminalBack, GivesJobsTerminalBackAtRest, GivesTerminalBack, GivesTerminalBackAtRest};
 
 use sh_stock::Stock;
 
@@ -86,9 +86,11 @@ pub fn runs_stand_before_actions<S: Stock>()
 {}
 
 /// Law: with job control (XCU 2.11) the turn in which a shell waits for a pipeline, or for a job that `fg` has brought to the foreground, either
-/// leaves all as it is, or gives the terminal back: its foreground group is the shell's own then. So no command of the shell runs while the
-/// terminal is that of a pipeline or a job that has ended or is stopped.
+/// leaves all as it is, or gives the terminal back: its foreground group is the shell's own then. It gives it back wherever none of the
+/// processes runs any more. Until that turn the foreground group may be one without a process that lives.
 pub fn waits_give_the_terminal_back()
     ensures pipelines { GivesTerminalBack }
     ensures jobs { GivesJobsTerminalBack }
+    ensures pipelines_at_rest { GivesTerminalBackAtRest }
+    ensures jobs_at_rest { GivesJobsTerminalBackAtRest }
 {}
