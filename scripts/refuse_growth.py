@@ -1,16 +1,20 @@
 #!/usr/bin/env python3
-"""Refuses each growth of memory in turn in the built program, for some scripts and typed sessions.
+"""Refuses each growth of memory in turn in the built program, for some scripts and typed sessions, or for rows.
 
-usage: refuse_growth.py [typed] [PROGRAM]
+usage: refuse_growth.py [typed | rows FILE EVERY] [PROGRAM]
 
 Each run must answer as with ample memory, or with 3, `psh: out of memory` and the terminal's bytes after some of the events. With the word
-`typed` there are only the sessions. Needs a C compiler, and psh built (./build), or a path to it as the last word.
+`typed` there are only the sessions. With `rows` there is every EVERY-th row of a file that `run_psh_rows.py` runs, of those that end with
+status 0, and without a report. Needs a C compiler, and psh built (./build), or a path to it as the last word.
 """
+import concurrent.futures
 import itertools
 import os
 import subprocess
 import sys
 import tempfile
+
+import run_psh_rows
 
 SHIM = r"""
 #define _GNU_SOURCE
@@ -165,11 +169,33 @@ def turns_of(count):
     return ["next"] * count
 
 
+def keys_of(text):
+    """The keys of a text, as events."""
+    return [f"key {byte:02x}" for byte in text]
+
+
 def events_of(session):
     """The events of a typed session."""
     events = []
     for part in session:
-        events += turns_of(part) if isinstance(part, int) else [f"key {byte:02x}" for byte in part.encode()]
+        events += turns_of(part) if isinstance(part, int) else keys_of(part.encode())
+    return events
+
+
+def events_in(content):
+    """The events of a file of events, one by one."""
+    events = []
+    for line in content.split(b"\n"):
+        word, _, rest = line.partition(b" ")
+        if word == b"type":
+            events += keys_of(rest)
+        elif word == b"next":
+            events += turns_of(int(rest or 1))
+        elif word == b"run":
+            place, _, times = rest.partition(b" ")
+            events += [f"run {int(place)}"] * int(times or 1)
+        elif line:
+            events.append(line.decode())
     return events
 
 
@@ -178,7 +204,7 @@ def written(events):
     text = ""
     for event, same in itertools.groupby(events):
         times = len(list(same))
-        text += f"next {times}\n" if event == "next" else f"{event}\n" * times
+        text += f"{event}\n" * times if event.startswith("key") else f"{event} {times}\n"
     return text
 
 
@@ -191,25 +217,42 @@ def runs_of(image, path, is_typed):
     return sessions if is_typed else texts + scripts + sessions
 
 
-class Program:
-    """The program, with a library that refuses a growth."""
+def make_shim(folder):
+    """The library that refuses a growth."""
+    shim = os.path.join(folder, "shim.so")
+    subprocess.run(["cc", "-shared", "-fPIC", "-x", "c", "-", "-o", shim], input=SHIM.encode(), check=True)
+    return shim
 
-    def __init__(self, program, folder):
-        self.program, self.path, self.shim = program, os.path.join(folder, "events"), os.path.join(folder, "shim.so")
-        subprocess.run(["cc", "-shared", "-fPIC", "-x", "c", "-", "-o", self.shim], input=SHIM.encode(), check=True)
+
+class Program:
+    """The program, with a library that refuses a growth, in a folder in which it runs."""
+
+    def __init__(self, program, shim, folder):
+        self.program, self.shim, self.folder, self.path = program, shim, folder, os.path.join(folder, "events")
 
     def run(self, words, events, refused=0):
         """What a run comes to in which this growth is refused, or none."""
         with open(self.path, "w", encoding="utf-8") as file:
             file.write(written(events))
         env = {"LD_PRELOAD": self.shim, "REFUSE": str(refused)} if refused else {}
-        done = subprocess.run([self.program, *words], capture_output=True, env=env)
+        done = subprocess.run([self.program, *words], capture_output=True, cwd=self.folder, env=env)
         return done.returncode, done.stdout, done.stderr
+
+    def is_front(self, words, events, out):
+        """Whether these are the terminal's bytes after some of the events. They only grow."""
+        low, high = 0, len(events)
+        while low < high:
+            middle = (low + high) // 2
+            if len(self.run(words, events[:middle])[1]) < len(out):
+                low = middle + 1
+            else:
+                high = middle
+        return self.run(words, events[:low])[1] == out
 
     def refuse_all(self, words, told, events):
         """Refuses each growth in turn; the number of refusals, and of bad ones."""
         whole = self.run(words, events)
-        fronts = [self.run(words, events[:k])[1] for k in range(len(events))] + [whole[1]]
+        fronts = {whole[1]}
         refusals = bad = growth = quiet = 0
         while quiet < QUIET:
             growth += 1
@@ -219,6 +262,8 @@ class Program:
                 continue
             quiet = 0
             refusals += 1
+            if out not in fronts and self.is_front(words, events, out):
+                fronts.add(out)
             if not (status == 3 and out in fronts and said == WANTING):
                 bad += 1
                 print("growth %d of %r: status %d, %r, %r" % (growth, told, status, out, said))
@@ -226,29 +271,51 @@ class Program:
         return refusals, bad
 
 
-def main(program, is_typed):
-    bad = all_refusals = 0
+def refuse_row(program, shim, row):
+    """Refuses each growth of a row in turn."""
+    with tempfile.TemporaryDirectory() as folder:
+        with open(os.path.join(folder, "image"), "wb") as image:
+            image.write(row.image)
+        words = [word.decode("utf-8", "surrogateescape") for word in row.words if word != b"--report"]
+        return Program(program, shim, folder).refuse_all(words, (row.line, *words), events_in(row.events))
+
+
+def refuse_rows(program, path, every):
+    """Refuses each growth of some rows in turn, several rows side by side."""
+    rows = [row for row in run_psh_rows.read_rows(path) if row.status == 0 and not row.is_full]
+    with tempfile.TemporaryDirectory() as folder, concurrent.futures.ThreadPoolExecutor(os.cpu_count()) as pool:
+        shim = make_shim(folder)
+        return list(pool.map(lambda row: refuse_row(program, shim, row), rows[::every]))
+
+
+def refuse_runs(program, is_typed):
+    """Refuses each growth of the runs above in turn."""
     with tempfile.TemporaryDirectory() as folder:
         image = os.path.join(folder, "image")
         write_image(image)
-        shell = Program(program, folder)
-        for words, told, events in runs_of(image, shell.path, is_typed):
-            refusals, bad_ones = shell.refuse_all(words, told, events)
-            all_refusals += refusals
-            bad += bad_ones
-    print("%d refusals, %d bad" % (all_refusals, bad))
+        shell = Program(program, make_shim(folder), folder)
+        return [shell.refuse_all(words, told, events) for words, told, events in runs_of(image, shell.path, is_typed)]
+
+
+def program_of(paths):
+    """The program of the last words."""
+    top = os.path.dirname(os.path.dirname(os.path.abspath(__file__)))
+    paths = paths or [os.path.join(top, "out", "psh")]
+    if len(paths) > 1 or not os.access(paths[0], os.X_OK):
+        sys.exit(__doc__)
+    return os.path.abspath(paths[0])
+
+
+def main(words):
+    if words[:1] == ["rows"] and len(words) > 2 and words[2].isdigit():
+        found = refuse_rows(program_of(words[3:]), words[1], int(words[2]))
+    else:
+        is_typed = words[:1] == ["typed"]
+        found = refuse_runs(program_of(words[is_typed:]), is_typed)
+    bad = sum(one for _, one in found)
+    print("%d runs, %d refusals, %d bad" % (len(found), sum(one for one, _ in found), bad))
     return 1 if bad else 0
 
 
-def asked(words):
-    """The program, and whether there are only the sessions."""
-    is_typed = words[:1] == ["typed"]
-    top = os.path.dirname(os.path.dirname(os.path.abspath(__file__)))
-    paths = words[is_typed:] or [os.path.join(top, "out", "psh")]
-    if len(paths) > 1 or not os.access(paths[0], os.X_OK):
-        sys.exit(__doc__)
-    return os.path.abspath(paths[0]), is_typed
-
-
 if __name__ == "__main__":
-    sys.exit(main(*asked(sys.argv[1:])))
+    sys.exit(main(sys.argv[1:]))
