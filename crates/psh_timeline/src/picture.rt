@@ -29,7 +29,7 @@ const WRITTEN_CHARACTERS: usize = 16;
 /// The height of the numbers of turns above a band, and of what the terminal gets below it.
 const ABOVE: u64 = 24;
 
-const BELOW: u64 = 130;
+const BELOW: u64 = 142;
 
 /// The height of a line of the legend, and the width of its longest one.
 const LEGEND_LINE: u64 = 18;
