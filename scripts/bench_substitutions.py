@@ -6,37 +6,27 @@ and the ratio of the last two figures. A word is expanded again from its front f
 
 Needs valgrind, and psh built (./build), or a path to it as the only word.
 """
-import os
-import sys
-import tempfile
+import itertools
 
 import measuring
 
-TOP = os.path.dirname(os.path.dirname(os.path.abspath(__file__)))
 # The fork, the two turns of its process, the read that finds the end, the wait and the expansion; and some more.
 TURNS = 8
+COUNTS = (1, 11, 101, 1_001)
 
 
-def main(program=f"{TOP}/out/psh"):
-    if not os.access(program, os.X_OK):
-        sys.exit(__doc__)
-    with tempfile.TemporaryDirectory() as folder:
-        image = f"{folder}/image"
-        with open(image, "w", encoding="utf-8") as file:
-            file.write("psh image 1\nend\n")
-
-        def cost(count):
+def main():
+    costs = []
+    with measuring.bare_run(__doc__) as (program, folder, image):
+        for count in COUNTS:
             events = measuring.write_events(f"{folder}/events", 10 + count * TURNS)
-            script = f": {'$(:)' * count}"
-            return measuring.instructions(folder, [os.path.abspath(program), "-c", script, image, events])
-
-        counts = (1, 11, 101, 1_001)
-        costs = [cost(count) for count in counts]
-    each = [(b - a) / (m - n) for a, b, n, m in zip(costs, costs[1:], counts, counts[1:])]
-    for (n, m), one in zip(zip(counts, counts[1:]), each):
-        print(f"from {n} to {m} substitutions: {one:.0f} instructions for each")
+            costs.append(measuring.instructions(folder, [program, "-c", f": {'$(:)' * count}", image, events]))
+    each = []
+    for (fewer, before), (more, behind) in itertools.pairwise(zip(COUNTS, costs)):
+        each.append((behind - before) / (more - fewer))
+        print(f"from {fewer} to {more} substitutions: {each[-1]:.0f} instructions for each")
     print(f"ratio {each[-1] / each[-2]:.2f}")
 
 
 if __name__ == "__main__":
-    main(*sys.argv[1:2])
+    main()

@@ -1,7 +1,11 @@
-"""What the benchmarks of the built program share: the instructions and the memory of a run, and files of events."""
+"""What the benchmarks of the built program share: the instructions and the memory of a run, and files of images and events."""
+import contextlib
+import os
 import subprocess
 import sys
 import tempfile
+
+TOP = os.path.dirname(os.path.dirname(os.path.abspath(__file__)))
 
 # Runs a program and tells the most memory that it had, in KiB. A process that Python starts counts the memory of Python, which it has
 # until it runs the program; one that this small program starts doesn't.
@@ -20,6 +24,19 @@ int main(int count, char **words) {
     return WIFEXITED(status) ? WEXITSTATUS(status) : 125;
 }
 """
+
+
+@contextlib.contextmanager
+def bare_run(usage):
+    """The program of the command line, or the one that was built; and a folder that has an image without files, and its path."""
+    program = os.path.abspath((sys.argv[1:] or [f"{TOP}/out/psh"])[0])
+    if len(sys.argv) > 2 or not os.access(program, os.X_OK):
+        sys.exit(usage)
+    with tempfile.TemporaryDirectory() as folder:
+        image = f"{folder}/image"
+        with open(image, "w", encoding="utf-8") as file:
+            file.write("psh image 1\nend\n")
+        yield program, folder, image
 
 
 def write_events(path, turns):
