@@ -3,7 +3,7 @@ use Rattle.std.specs.Prelude.{ℕ, List, Bool, true, false}
 use Rattle.sh_builtin.specs.Running.{BuiltIn, built_in, with_outcome}
 use Rattle.sh_builtin_outcome.specs.declared.invocation.Invocation.{Invocation}
 use Rattle.sh_builtin_outcome.specs.declared.outcome.Completion.{Completion}
-use Rattle.sh_builtin_outcome.specs.declared.outcome.Completion.TheVariants.{Continues, Done, Kills, Left, Runs, Reads, Waits}
+use Rattle.sh_builtin_outcome.specs.declared.outcome.Completion.TheVariants.{Asks, Done, Foreground, Left, Runs}
 use Rattle.sh_builtin_outcome.specs.declared.outcome.Leave.{Leave}
 use Rattle.sh_builtin_outcome.specs.declared.outcome.Leave.TheVariants as leave
 use Rattle.sh_builtin_outcome.specs.declared.outcome.Outcome.{Outcome}
@@ -22,10 +22,8 @@ abbrev pub regular_completion : Completion → Completion
 regular_completion (Done status) = Done status
 regular_completion (Left l) = regular_leave l
 regular_completion (Runs how text) = Runs (record how { is_special = false }) text
-regular_completion (Reads reader) = Reads reader
-regular_completion (Waits awaited) = Waits awaited
-regular_completion (Kills ask) = Kills ask
-regular_completion (Continues continuation) = Continues continuation
+regular_completion (Asks rest) = Asks rest
+regular_completion (Foreground wait) = Foreground wait
 
 abbrev pub outcome_as : (is_special : Bool) → Outcome → Outcome
 outcome_as true outcome = outcome

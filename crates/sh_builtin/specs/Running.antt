@@ -8,7 +8,7 @@ use Rattle.sh_builtin.specs.Loops.{leave_with, loop_with, operands_of}
 use Rattle.sh_builtin_outcome.specs.Outcomes.{continuing, done, misuse, killing, outcome_of, output, reading, refusal, refused_with, running, saying, waiting, with_signals}
 use Rattle.sh_builtin_outcome.specs.declared.builtin.Builtin.{Builtin}
 use Rattle.sh_builtin_outcome.specs.declared.builtin.Builtin.TheVariants.{Alias, Bg, Bracket, Break, Cd, Colon, Command, Continue, Dot, Echo, Eval, Exec, Exit, Export, False, Fg, Jobs, Kill, Pwd, Read, ReadOnly, Return, Set, Shift, Test, Trap, True, Unalias, Unset, Wait}
-use Rattle.sh_builtin_outcome.specs.declared.outcome.Continuation.TheVariants.{Background, Foreground}
+use Rattle.sh_builtin_outcome.specs.declared.rest.Continuation.TheVariants.{Background, Foreground}
 use Rattle.sh_builtin_outcome.specs.declared.outcome.Leave.TheVariants as leave
 use Rattle.sh_builtin_outcome.specs.declared.outcome.Outcome.{Outcome}
 use Rattle.sh_builtin_outcome.specs.declared.outcome.TextOrigin.TheVariants as origin

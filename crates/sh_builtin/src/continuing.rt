@@ -1,15 +1,19 @@
 //! The built-ins bg and fg (XCU bg, fg).
-ghost use Rattle.std.specs.Prelude.{◌≡◌, IfOk};
+ghost use Rattle.std.specs.Prelude.{◌≡◌, ◌∷◌, [], IfOk, MatchOption, OnOk};
+ghost use Rattle.sh_builtin.specs.Resuming.{background_continued, background_left, continue_resumed, foreground_continued, job_continued, processes_of, with_continued};
 ghost use Rattle.sh_builtin.specs.Running.{background_by, background_outcome, bg_ran, fg_ran, foreground_outcome, with_outcome};
 ghost use Rattle.sh_builtin_jobs.specs.Continuing.{bg_of, fg_of};
-ghost use Rattle.sh_builtin_shell.specs.Shells.{has_job_control, up_to_date};
+ghost use Rattle.sh_builtin_outcome.specs.Outcomes.{continuing};
+ghost use Rattle.sh_builtin_shell.specs.Shells.{has_job_control, in_background, in_foreground, up_to_date};
 ghost use Rattle.sh_kernel.specs.State.{KernelState, StandsAt};
 
+use crate::answer::Answer;
 use sh_base::NoMemory;
-use sh_base::sequence::Text;
-use sh_builtin_jobs::{BackgroundJobs, ForegroundJob, bg_of, fg_of};
-use sh_builtin_outcome::{Continuation, Outcome};
+use sh_base::sequence::{Sequence, Text};
+use sh_builtin_jobs::{BackgroundJobs, ContinuedJob, ForegroundJob, bg_of, fg_of, tell_continued};
+use sh_builtin_outcome::{Continuation, JobWait, Outcome};
 use sh_builtin_shell::Shell;
+use sh_jobs::Jobs;
 use sh_kernel::Kernel;
 use std::alloc::Global;
 
@@ -134,4 +138,143 @@ pub(crate) fn fg(
     shell.bring_jobs_up_to_date(kernel);
     let outcome = fg_with(alloc, kernel, shell, arguments)?;
     Ok(outcome)
+}
+
+/// The processes of a job.
+fn processes_of(alloc: Global, jobs: &Jobs, number: usize) -> Result<Sequence<u32>, NoMemory>
+    ensures { IfOk result (λ processes. processes ≡ processes_of jobs.now number) }
+{
+    match jobs.job(number) {
+        Some(job) => Ok(Sequence::copy_of(alloc, job.pids.as_slice())?),
+        None => Ok(Sequence::new(alloc)),
+    }
+}
+
+/// What bg does next, where these jobs are left.
+fn background_left(
+    alloc: Global,
+    jobs: Sequence<ContinuedJob>,
+    messages: Sequence<Text>,
+    status: u8,
+) -> Outcome
+    ensures { result ≡ background_left jobs messages status }
+{
+    let out = Sequence::new(alloc);
+    if jobs.is_empty() {
+        return Outcome::saying(out, messages, status);
+    }
+    Outcome::continuing(
+        alloc,
+        out,
+        Continuation::Background {
+            jobs,
+            messages,
+            status,
+        },
+    )
+}
+
+/// A job goes on in the background, and the shell knows its processes.
+fn bring_to_background(alloc: Global, shell: &mut Shell, job: ContinuedJob) -> Result<(), NoMemory>
+    ensures { OnOk result (shell.new
+        ≡ in_background (with_continued shell.old job) (processes_of shell.old.jobs job.number)) }
+{
+    let processes = processes_of(alloc, &shell.jobs, job.number)?;
+    tell_continued(&mut shell.jobs, job);
+    shell.bring_to_background(processes.as_slice())
+}
+
+/// The first of these jobs, and the others.
+fn split_first(jobs: Sequence<ContinuedJob>) -> Option<(ContinuedJob, Sequence<ContinuedJob>)>
+    ensures { MatchOption result (jobs ≡ []) (λ split. jobs ≡ split.0 ∷ split.1) }
+{
+    let mut jobs = jobs.into_vec();
+    if jobs.is_empty() {
+        return None;
+    }
+    let first = jobs.remove(0);
+    Some((first, Sequence::from_vec(jobs)))
+}
+
+/// The first of these jobs goes on in the background.
+fn background_continued(
+    alloc: Global,
+    shell: &mut Shell,
+    jobs: Sequence<ContinuedJob>,
+    messages: Sequence<Text>,
+    status: u8,
+) -> Result<Outcome, NoMemory>
+    ensures { IfOk result (λ outcome.
+        with_outcome shell.new outcome ≡ background_continued shell.old jobs messages status) }
+{
+    let Some((job, others)) = split_first(jobs) else {
+        return Ok(Outcome::saying(Sequence::new(alloc), messages, status));
+    };
+    match bring_to_background(alloc, shell, job) {
+        Ok(()) => Ok(background_left(alloc, others, messages, status)),
+        Err(lack) => {
+            drop(others);
+            drop(messages);
+            Err(lack)
+        },
+    }
+}
+
+/// A job goes on in the foreground, and the shell waits for it.
+fn foreground_continued(
+    alloc: Global,
+    shell: &mut Shell,
+    job: ContinuedJob,
+) -> Result<Outcome, NoMemory>
+    ensures { IfOk result (λ outcome. with_outcome shell.new outcome ≡ foreground_continued shell.old job) }
+{
+    let processes = processes_of(alloc, &shell.jobs, job.number)?;
+    tell_continued(&mut shell.jobs, job);
+    shell.bring_to_foreground(processes.as_slice());
+    let number = job.number;
+    Ok(Outcome::foreground(alloc, JobWait { number, processes }))
+}
+
+/// A job goes on.
+fn continued(
+    alloc: Global,
+    shell: &mut Shell,
+    continuation: Continuation,
+) -> Result<Outcome, NoMemory>
+    ensures { IfOk result (λ outcome. with_outcome shell.new outcome ≡ job_continued shell.old continuation) }
+{
+    match continuation {
+        Continuation::Background {
+            jobs,
+            messages,
+            status,
+        } => background_continued(alloc, shell, jobs, messages, status),
+        Continuation::Foreground(job) => foreground_continued(alloc, shell, job),
+    }
+}
+
+/// What is left of bg or fg behind an answer.
+pub(crate) fn resume_continuing(
+    alloc: Global,
+    shell: &mut Shell,
+    continuation: Continuation,
+    answer: Answer,
+) -> Result<Outcome, NoMemory>
+    ensures { IfOk result (λ outcome.
+        with_outcome shell.new outcome ≡ continue_resumed shell.old continuation answer) }
+{
+    match answer {
+        Answer::Bytes(_) => Ok(again(alloc, continuation)),
+        Answer::Ended(_) => Ok(again(alloc, continuation)),
+        Answer::Caught(_) => Ok(again(alloc, continuation)),
+        Answer::Sent(_) => Ok(again(alloc, continuation)),
+        Answer::Continued => continued(alloc, shell, continuation),
+    }
+}
+
+/// The same is asked again.
+fn again(alloc: Global, continuation: Continuation) -> Outcome
+    ensures { result ≡ continuing [] continuation }
+{
+    Outcome::continuing(alloc, Sequence::new(alloc), continuation)
 }

@@ -37,10 +37,8 @@ fn regular_completion(completion: Completion) -> Completion
             let how = TextRun { origin, is_special };
             Completion::Runs(how, text)
         },
-        Completion::Reads(reader) => Completion::Reads(reader),
-        Completion::Waits(awaited) => Completion::Waits(awaited),
-        Completion::Kills(ask) => Completion::Kills(ask),
-        Completion::Continues(continuation) => Completion::Continues(continuation),
+        Completion::Asks(rest) => Completion::Asks(rest),
+        Completion::Foreground(wait) => Completion::Foreground(wait),
     }
 }
 

@@ -1,22 +1,25 @@
 //! The built-in kill (XCU kill).
 ghost use Rattle.std.specs.Prelude.{◌≡◌, IfOk};
+ghost use Rattle.sh_builtin.specs.Resuming.{kill_resumed, next_signal};
 ghost use Rattle.sh_builtin.specs.Running.{control_of, kill_does, kill_outcome, kill_ran, kill_step, with_outcome};
 ghost use Rattle.sh_builtin_jobs.specs.KillWords.{kill_of};
 ghost use Rattle.sh_builtin_shell.specs.Shells.{up_to_date};
 ghost use Rattle.sh_kernel.specs.State.{KernelState, StandsAt};
 
+use crate::answer::Answer;
 use sh_base::NoMemory;
 use sh_base::sequence::{Sequence, Text};
 use sh_builtin_jobs::{
-    JobControl, KillCommand, KillSend, KillStep, kill_of, kill_start, signal_line, signal_lines,
+    JobControl, KillAsk, KillCommand, KillSend, KillStep, kill_of, kill_start, signal_line,
+    signal_lines,
 };
 use sh_builtin_outcome::{Builtin, Outcome};
 use sh_builtin_shell::{Shell, own_group};
 use sh_kernel::Kernel;
 use std::alloc::Global;
 
-/// Whether a shell has job control, and its group (XCU 2.11). Takes no memory.
-pub fn job_control(kernel: &Kernel, shell: &Shell) -> JobControl
+/// Whether a shell has job control, and its group (XCU 2.11).
+fn job_control(kernel: &Kernel, shell: &Shell) -> JobControl
     ensures { (s : KernelState) → StandsAt kernel.now s → result ≡ control_of s shell.now }
 {
     JobControl {
@@ -99,4 +102,59 @@ pub(crate) fn kill(
     shell.bring_jobs_up_to_date(kernel);
     let outcome = kill_with(alloc, kernel, shell, arguments)?;
     Ok(outcome)
+}
+
+/// The next operand is looked up.
+fn next_signal(
+    alloc: Global,
+    kernel: &Kernel,
+    shell: &Shell,
+    ask: KillAsk,
+    is_reached: bool,
+) -> Result<Outcome, NoMemory>
+    ensures { (s : KernelState) → StandsAt kernel.now s → IfOk result (λ outcome.
+        with_outcome shell.now outcome ≡ next_signal s shell.now ask is_reached) }
+{
+    let control = job_control(kernel, shell);
+    let step = ask.go_on(alloc, control, kernel, &shell.jobs, is_reached)?;
+    Ok(kill_step(alloc, step))
+}
+
+/// The signal of an operand was sent.
+fn sent(
+    alloc: Global,
+    kernel: &Kernel,
+    shell: &mut Shell,
+    ask: KillAsk,
+    is_reached: bool,
+) -> Result<Outcome, NoMemory>
+    ensures { (s : KernelState) → StandsAt kernel.now s → IfOk result (λ outcome.
+        with_outcome shell.new outcome ≡ next_signal s (up_to_date s shell.old) ask is_reached) }
+{
+    shell.bring_jobs_up_to_date(kernel);
+    let outcome = next_signal(alloc, kernel, shell, ask, is_reached)?;
+    Ok(outcome)
+}
+
+/// What is left of kill behind an answer.
+pub(crate) fn resume_kill(
+    alloc: Global,
+    kernel: &Kernel,
+    shell: &mut Shell,
+    ask: KillAsk,
+    answer: Answer,
+) -> Result<Outcome, NoMemory>
+    ensures { (s : KernelState) → StandsAt kernel.now s → IfOk result (λ outcome.
+        with_outcome shell.new outcome ≡ kill_resumed s shell.old ask answer) }
+{
+    match answer {
+        Answer::Bytes(_) => Ok(Outcome::killing(alloc, ask)),
+        Answer::Ended(_) => Ok(Outcome::killing(alloc, ask)),
+        Answer::Caught(_) => Ok(Outcome::killing(alloc, ask)),
+        Answer::Sent(is_reached) => {
+            let outcome = sent(alloc, kernel, shell, ask, is_reached)?;
+            Ok(outcome)
+        },
+        Answer::Continued => Ok(Outcome::killing(alloc, ask)),
+    }
 }

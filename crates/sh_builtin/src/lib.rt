@@ -2,6 +2,7 @@
 #![tactic(auto)]
 
 mod aliases;
+mod answer;
 mod command;
 mod continuing;
 mod dot;
@@ -10,10 +11,12 @@ mod jobs;
 mod killing;
 mod leaving;
 mod reading;
+mod resuming;
 mod running;
 mod testing;
 mod waiting;
 
+pub use answer::Answer;
 pub use invocation::invoke;
-pub use killing::job_control;
+pub use resuming::resume;
 pub use running::run;

@@ -1,15 +1,20 @@
 //! The built-in wait (XCU wait).
 ghost use Rattle.std.specs.Prelude.{◌≡◌, IfOk};
+ghost use Rattle.sh_builtin.specs.Resuming.{next_operand, operand_ended, said_so_far, wait_caught, wait_ended, wait_resumed, without_target};
 ghost use Rattle.sh_builtin.specs.Running.{wait_outcome, wait_ran, wait_start, wait_step, with_outcome};
 ghost use Rattle.sh_builtin_shell.specs.Shells.{up_to_date};
 ghost use Rattle.sh_builtin_outcome.specs.Waits.{wait_of};
 ghost use Rattle.sh_kernel.specs.State.{KernelState, StandsAt};
 
+use crate::answer::Answer;
 use sh_base::NoMemory;
 use sh_base::sequence::{Sequence, Text};
-use sh_builtin_outcome::{Awaited, Builtin, Outcome, WaitStart, WaitStep, wait_of};
+use sh_builtin_outcome::{
+    Awaited, Builtin, OperandWait, Outcome, WaitStart, WaitStep, WaitTarget, wait_of,
+};
 use sh_builtin_shell::Shell;
 use sh_kernel::Kernel;
+use sh_signal::Signal;
 use std::alloc::Global;
 
 /// What the operands of wait come to.
@@ -69,4 +74,110 @@ pub(crate) fn wait(
     shell.bring_jobs_up_to_date(kernel);
     let outcome = wait_with(alloc, kernel, shell, arguments)?;
     Ok(outcome)
+}
+
+/// The shell doesn't know any more what it has waited for.
+fn forget(shell: &mut Shell, target: &WaitTarget)
+    ensures { shell.new ≡ without_target shell.old target.now }
+{
+    match target {
+        WaitTarget::Process(pid) => shell.forget(*pid),
+        WaitTarget::Job { number, processes } => shell.forget_job(*number, processes.as_slice()),
+    }
+}
+
+/// The next operand is looked up.
+fn next_operand(
+    alloc: Global,
+    kernel: &Kernel,
+    shell: &Shell,
+    wait: OperandWait,
+    status: u8,
+) -> Result<Outcome, NoMemory>
+    ensures { (s : KernelState) → StandsAt kernel.now s → IfOk result (λ outcome.
+        with_outcome shell.now outcome ≡ next_operand s shell.now wait status) }
+{
+    let step = wait.go_on(alloc, kernel, &shell.jobs, shell.known.as_slice(), status)?;
+    Ok(wait_step(alloc, step))
+}
+
+/// What an operand names has ended.
+fn operand_ended(
+    alloc: Global,
+    kernel: &Kernel,
+    shell: &mut Shell,
+    wait: OperandWait,
+    status: u8,
+) -> Result<Outcome, NoMemory>
+    ensures { (s : KernelState) → StandsAt kernel.now s → IfOk result (λ outcome.
+        with_outcome shell.new outcome ≡ operand_ended s shell.old wait status) }
+{
+    forget(shell, &wait.target);
+    shell.bring_jobs_up_to_date(kernel);
+    let outcome = next_operand(alloc, kernel, shell, wait, status)?;
+    Ok(outcome)
+}
+
+/// What is waited for has ended.
+fn ended(
+    alloc: Global,
+    kernel: &Kernel,
+    shell: &mut Shell,
+    awaited: Awaited,
+    status: u8,
+) -> Result<Outcome, NoMemory>
+    ensures { (s : KernelState) → StandsAt kernel.now s → IfOk result (λ outcome.
+        with_outcome shell.new outcome ≡ wait_ended s shell.old awaited status) }
+{
+    match awaited {
+        Awaited::All => {
+            shell.forget_background();
+            Ok(Outcome::done(alloc, 0))
+        },
+        Awaited::Operand(wait) => {
+            let outcome = operand_ended(alloc, kernel, shell, wait, status)?;
+            Ok(outcome)
+        },
+    }
+}
+
+/// What is to be said of the operands so far.
+fn said_so_far(alloc: Global, awaited: Awaited) -> Sequence<Text>
+    ensures { result ≡ said_so_far awaited }
+{
+    match awaited {
+        Awaited::All => Sequence::new(alloc),
+        Awaited::Operand(OperandWait { messages, .. }) => messages,
+    }
+}
+
+/// A signal ends the waiting.
+fn caught(alloc: Global, awaited: Awaited, signal: Signal) -> Outcome
+    ensures { result ≡ wait_caught awaited signal }
+{
+    let messages = said_so_far(alloc, awaited);
+    Outcome::saying(Sequence::new(alloc), messages, 128 + signal.number())
+}
+
+/// What is left of wait behind an answer.
+pub(crate) fn resume_wait(
+    alloc: Global,
+    kernel: &Kernel,
+    shell: &mut Shell,
+    awaited: Awaited,
+    answer: Answer,
+) -> Result<Outcome, NoMemory>
+    ensures { (s : KernelState) → StandsAt kernel.now s → IfOk result (λ outcome.
+        with_outcome shell.new outcome ≡ wait_resumed s shell.old awaited answer) }
+{
+    match answer {
+        Answer::Bytes(_) => Ok(Outcome::waiting(alloc, awaited)),
+        Answer::Ended(status) => {
+            let outcome = ended(alloc, kernel, shell, awaited, status)?;
+            Ok(outcome)
+        },
+        Answer::Caught(signal) => Ok(caught(alloc, awaited, signal)),
+        Answer::Sent(_) => Ok(Outcome::waiting(alloc, awaited)),
+        Answer::Continued => Ok(Outcome::waiting(alloc, awaited)),
+    }
 }

@@ -1,15 +1,18 @@
 -- What a built-in comes to, beside what it changes of the shell: what it writes, and how it ends.
-use Rattle.std.specs.Prelude.{ℕ, List, [], ◌∷◌, Bool, true, false}
+use Rattle.std.specs.Prelude.{ℕ, List, [], ◌∷◌, Bool, true, false, Option, Some, None}
 use Rattle.sh_builtin_outcome.specs.Builtins.{is_special, name_of}
 use Rattle.sh_builtin_outcome.specs.Messages.{fault_text, line_of, status_of}
 use Rattle.sh_builtin_outcome.specs.declared.builtin.Builtin.{Builtin}
 use Rattle.sh_builtin_outcome.specs.declared.outcome.Completion.{Completion}
-use Rattle.sh_builtin_outcome.specs.declared.outcome.Completion.TheVariants.{Continues, Done, Kills, Left, Reads, Runs, Waits}
-use Rattle.sh_builtin_outcome.specs.declared.outcome.Continuation.{Continuation}
+use Rattle.sh_builtin_outcome.specs.declared.outcome.Completion.TheVariants.{Asks, Done, Foreground, Left, Runs}
 use Rattle.sh_builtin_outcome.specs.declared.outcome.Leave.{Leave}
 use Rattle.sh_builtin_outcome.specs.declared.outcome.Leave.TheVariants as leave
 use Rattle.sh_builtin_outcome.specs.declared.outcome.Outcome.{Outcome}
 use Rattle.sh_builtin_outcome.specs.declared.outcome.TextOrigin.{TextOrigin}
+use Rattle.sh_builtin_outcome.specs.declared.rest.BuiltinRest.{BuiltinRest}
+use Rattle.sh_builtin_outcome.specs.declared.rest.BuiltinRest.TheVariants.{Reads, Waits, Kills, Continues}
+use Rattle.sh_builtin_outcome.specs.declared.rest.Continuation.{Continuation}
+use Rattle.sh_builtin_outcome.specs.declared.rest.JobWait.{JobWait}
 use Rattle.sh_builtin_environment.specs.declared.outcome.BuiltinFault.{BuiltinFault}
 use Rattle.sh_builtin_environment.specs.declared.outcome.BuiltinFault.TheVariants as fault
 use Rattle.sh_builtin_environment.specs.declared.outcome.Outcome.{Outcome as Answer}
@@ -43,17 +46,33 @@ left leave = outcome [] [] (Left leave)
 abbrev pub running : TextOrigin → List ℕ → Outcome
 running origin text = outcome [] [] (Runs (record { origin = origin; is_special = true }) text)
 
+-- it asks something of the kernel first
+abbrev pub asking : List ℕ → BuiltinRest → Outcome
+asking out rest = outcome out [] (Asks rest)
+
 abbrev pub reading : LineReader → Outcome
-reading reader = outcome [] [] (Reads reader)
+reading reader = asking [] (Reads reader)
 
 abbrev pub waiting : Awaited → Outcome
-waiting awaited = outcome [] [] (Waits awaited)
+waiting awaited = asking [] (Waits awaited)
 
 abbrev pub killing : KillAsk → Outcome
-killing ask = outcome [] [] (Kills ask)
+killing ask = asking [] (Kills ask)
 
 abbrev pub continuing : List ℕ → Continuation → Outcome
-continuing out continuation = outcome out [] (Continues continuation)
+continuing out continuation = asking out (Continues continuation)
+
+-- the shell waits for a job in the foreground
+abbrev pub foreground : JobWait → Outcome
+foreground wait = outcome [] [] (Foreground wait)
+
+-- what it does behind the kernel's answer, where it asks
+abbrev pub rest_in : Completion → Option BuiltinRest
+rest_in (Done status) = None
+rest_in (Left l) = None
+rest_in (Runs how text) = None
+rest_in (Asks rest) = Some rest
+rest_in (Foreground wait) = None
 
 -- a line in place of what it was to do, with the status 2
 abbrev pub refused_with : List ℕ → Outcome

@@ -1,14 +1,16 @@
 //! What built-ins come to.
-ghost use Rattle.std.specs.Prelude.{◌≡◌, IfOk};
-ghost use Rattle.sh_builtin_outcome.specs.Outcomes.{continuing, done, failure, killing, left, misuse, output, outcome_of, reading, refusal, refused_with, running, saying, shell_status, waiting, with_signals};
+ghost use Rattle.std.specs.Prelude.{◌≡◌, IfOk, option_map};
+ghost use Rattle.sh_builtin_outcome.specs.Rests.{ask_of};
+ghost use Rattle.sh_builtin_outcome.specs.Outcomes.{continuing, done, failure, foreground, killing, left, misuse, output, outcome_of, reading, refusal, refused_with, rest_in, running, saying, shell_status, waiting, with_signals};
 
 use crate::builtin::Builtin;
 use crate::message::{fault_line, status_of};
+use crate::rest::{Ask, BuiltinRest, Continuation, JobWait};
 use sh_base::NoMemory;
 use sh_base::sequence::{Sequence, Text};
 use sh_builtin_environment::BuiltinFault;
 use sh_builtin_regular::LineReader;
-use sh_builtin_wait::{Awaited, ContinuedJob, KillAsk};
+use sh_builtin_wait::{Awaited, KillAsk};
 use sh_kernel_signals::SignalSet;
 use std::alloc::Global;
 
@@ -60,19 +62,6 @@ pub struct TextRun {
     pub is_special: bool,
 }
 
-/// The jobs that `bg` or `fg` continues: each of them is sent CONT in a turn of its own, once their text was written (XCU bg, fg).
-#[derive(Debug, Drop)]
-pub enum Continuation {
-    /// `bg`: these jobs go on in the background. Then these messages are written, each whole, and this is the status.
-    Background {
-        jobs: Sequence<ContinuedJob>,
-        messages: Sequence<Text>,
-        status: u8,
-    },
-    /// `fg`: this job goes on in the foreground. Then the shell waits for it.
-    Foreground(ContinuedJob),
-}
-
 /// How a built-in ends.
 #[derive(Debug, Drop)]
 pub enum Completion {
@@ -82,14 +71,10 @@ pub enum Completion {
     Left(Leave),
     /// This text is run in its place, and the built-in has the status of the text's last command (XCU 2.15 dot, eval).
     Runs(TextRun, Text),
-    /// This line is read first, and the variables that it is for have its fields (XCU read).
-    Reads(LineReader),
-    /// The shell waits first (XCU wait).
-    Waits(Awaited),
-    /// A signal is sent first, to what each operand names (XCU kill).
-    Kills(KillAsk),
-    /// Jobs go on first (XCU bg, fg).
-    Continues(Continuation),
+    /// It asks something of the kernel first, and this is what it does behind the answer.
+    Asks(BuiltinRest),
+    /// It has brought this job to the foreground. The shell waits for it, and the built-in has the job's status (XCU fg).
+    Foreground(JobWait),
 }
 
 /// What a built-in comes to, beside what it changes of the shell. In this order it sets what the process does with `signals`,
@@ -181,7 +166,7 @@ impl Outcome {
             signals: SignalSet::new(),
             out: Sequence::new(alloc),
             err: Sequence::new(alloc),
-            status: Completion::Reads(reader),
+            status: Completion::Asks(BuiltinRest::Reads(reader)),
         }
     }
 
@@ -193,7 +178,7 @@ impl Outcome {
             signals: SignalSet::new(),
             out: Sequence::new(alloc),
             err: Sequence::new(alloc),
-            status: Completion::Waits(awaited),
+            status: Completion::Asks(BuiltinRest::Waits(awaited)),
         }
     }
 
@@ -205,7 +190,7 @@ impl Outcome {
             signals: SignalSet::new(),
             out: Sequence::new(alloc),
             err: Sequence::new(alloc),
-            status: Completion::Kills(ask),
+            status: Completion::Asks(BuiltinRest::Kills(ask)),
         }
     }
 
@@ -217,7 +202,42 @@ impl Outcome {
             signals: SignalSet::new(),
             out,
             err: Sequence::new(alloc),
-            status: Completion::Continues(continuation),
+            status: Completion::Asks(BuiltinRest::Continues(continuation)),
+        }
+    }
+
+    /// Has brought a job to the foreground, for which the shell waits.
+    pub fn foreground(alloc: Global, wait: JobWait) -> Outcome
+        ensures { result ≡ foreground wait }
+    {
+        Outcome {
+            signals: SignalSet::new(),
+            out: Sequence::new(alloc),
+            err: Sequence::new(alloc),
+            status: Completion::Foreground(wait),
+        }
+    }
+
+    /// What it does behind the kernel's answer, where it asks something of the kernel. Takes no memory.
+    pub fn rest(&self) -> Option<&BuiltinRest>
+        ensures { option_map (λ rest. rest.now) result ≡ rest_in self.now.status }
+    {
+        match &self.status {
+            Completion::Asks(rest) => Some(rest),
+            Completion::Done(_) => None,
+            Completion::Left(_) => None,
+            Completion::Runs(_, _) => None,
+            Completion::Foreground(_) => None,
+        }
+    }
+
+    /// What it asks of the kernel: before its output and its messages, but for `bg` and `fg`, whose output comes first. Takes no memory.
+    pub fn ask(&self) -> Option<Ask>
+        ensures { result ≡ option_map ask_of (rest_in self.now.status) }
+    {
+        match self.rest() {
+            Some(rest) => Some(rest.ask()),
+            None => None,
         }
     }
 

@@ -1,5 +1,7 @@
 -- What a process does in its next turn, as far as it may have to wait.
 use Rattle.std.specs.Prelude.{ℕ, List, length, Bool, false, Option, Some, None, if◌then◌else◌}
+use Rattle.sh_builtin_outcome.specs.declared.rest.BuiltinRest.{BuiltinRest}
+use Rattle.sh_builtin_outcome.specs.declared.rest.BuiltinRest.TheVariants.{Reads, Waits, Kills, Continues}
 use Rattle.sh_builtin_shell.specs.declared.shell.Shell.{Shell}
 use Rattle.sh_builtin_wait.specs.Waits.{processes_of}
 use Rattle.sh_builtin_wait.specs.declared.run.Awaited.{Awaited}
@@ -9,7 +11,7 @@ use Rattle.sh_exec.specs.declared.task.Task.TheVariants.{Runs, Asks}
 use Rattle.sh_exec_actions.specs.declared.action.Active.{Active}
 use Rattle.sh_exec_actions.specs.declared.action.Active.TheVariants.{Acting, Calling, Evaluating, Next, Done, Leaving}
 use Rattle.sh_exec_actions.specs.declared.action.Action.{Action}
-use Rattle.sh_exec_actions.specs.declared.action.Action.TheVariants.{Reading, Prompting, ReadInput, Expanding, ReadSubstitution, WaitSubstitution, ReadLine, Awaiting, SendSignal, ContinueJob, WaitForJob, Redirecting, Forking, Starting, ForkStage, ForkList, AssignLoopVariable, Defining, Waiting, Writing, Trapping, Ending}
+use Rattle.sh_exec_actions.specs.declared.action.Action.TheVariants.{Reading, Prompting, ReadInput, Expanding, ReadSubstitution, WaitSubstitution, Asking, WaitForJob, Redirecting, Forking, Starting, ForkStage, ForkList, AssignLoopVariable, Defining, Waiting, Writing, Trapping, Ending}
 use Rattle.sh_exec_shell.specs.Running.{active_of}
 use Rattle.sh_exec_shell.specs.Signals.{pending_signal}
 use Rattle.sh_exec_shell.specs.Traps.{is_called}
@@ -33,6 +35,13 @@ awaiting (Some signal) background awaited = Acts
 awaiting None background All = WaitsFor background
 awaiting None background (Operand wait) = WaitsFor (processes_of wait.target)
 
+-- what a built-in asks; a signal is sent at once
+abbrev pub asking : (caught : Option Signal) → (background : List ℕ) → BuiltinRest → Asked
+asking caught background (Reads reader) = ReadsBy (Number 0)
+asking caught background (Waits awaited) = awaiting caught background awaited
+asking caught background (Kills kill) = Acts
+asking caught background (Continues continuation) = Acts
+
 -- with job control a shell waits for the processes of a pipeline also until they are stopped (2.11)
 abbrev pub waiting : (children : List ℕ) → (job : Option (List ℕ)) → Asked
 waiting children None = WaitsFor children
@@ -45,10 +54,7 @@ action_at caught background (ReadInput beginning) = ReadsBy (Number 0)
 action_at caught background (Expanding wants pending) = Acts
 action_at caught background (ReadSubstitution substitution) = collecting substitution.aside
 action_at caught background (WaitSubstitution substitution) = WaitsFor substitution.children
-action_at caught background (ReadLine reader) = ReadsBy (Number 0)
-action_at caught background (Awaiting awaited) = awaiting caught background awaited
-action_at caught background (SendSignal ask) = Acts
-action_at caught background (ContinueJob continuation) = Acts
+action_at caught background (Asking rest) = asking caught background rest
 action_at caught background (WaitForJob wait) = WaitsUntraced wait.processes
 action_at caught background (Redirecting p) = Acts
 action_at caught background (Forking p) = Acts

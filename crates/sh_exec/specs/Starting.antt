@@ -20,7 +20,7 @@ use Rattle.sh_exec_actions.specs.declared.action.Active.{Active}
 use Rattle.sh_exec_actions.specs.declared.action.Active.TheVariants.{Acting, Calling, Evaluating, Next, Done, Leaving}
 use Rattle.sh_exec_actions.specs.declared.action.ProgramStart.{ProgramStart}
 use Rattle.sh_exec_actions.specs.declared.action.Action.{Action}
-use Rattle.sh_exec_actions.specs.declared.action.Action.TheVariants.{Reading, Prompting, ReadInput, Expanding, ReadSubstitution, WaitSubstitution, ReadLine, Awaiting, SendSignal, ContinueJob, WaitForJob, Redirecting, Forking, Starting, ForkStage, ForkList, AssignLoopVariable, Defining, Waiting, Writing, Trapping, Ending}
+use Rattle.sh_exec_actions.specs.declared.action.Action.TheVariants.{Reading, Prompting, ReadInput, Expanding, ReadSubstitution, WaitSubstitution, Asking, WaitForJob, Redirecting, Forking, Starting, ForkStage, ForkList, AssignLoopVariable, Defining, Waiting, Writing, Trapping, Ending}
 use Rattle.sh_exec_shell.specs.Running.{At}
 use Rattle.sh_exec_shell.specs.Signals.{after_own_signals}
 use Rattle.sh_kernel.specs.Calls.{start_call}
@@ -109,10 +109,7 @@ starting_at (ReadInput beginning) = None
 starting_at (Expanding wants pending) = None
 starting_at (ReadSubstitution substitution) = None
 starting_at (WaitSubstitution substitution) = None
-starting_at (ReadLine reader) = None
-starting_at (Awaiting awaited) = None
-starting_at (SendSignal ask) = None
-starting_at (ContinueJob continuation) = None
+starting_at (Asking rest) = None
 starting_at (WaitForJob wait) = None
 starting_at (Redirecting p) = None
 starting_at (Forking p) = None

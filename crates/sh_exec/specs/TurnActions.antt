@@ -2,6 +2,9 @@
 -- before it.
 use Rattle.std.specs.Option.{is_some}
 use Rattle.std.specs.Prelude.{List, ℕ, length, Bool, false, Option, Some, None}
+use Rattle.sh_builtin_outcome.specs.Rests.{ask_of}
+use Rattle.sh_builtin_outcome.specs.declared.rest.Ask.{Ask as Asked}
+use Rattle.sh_builtin_outcome.specs.declared.rest.Ask.TheVariants as asked
 use Rattle.sh_builtin_shell.specs.declared.shell.Shell.{Shell}
 use Rattle.sh_exec_shell.specs.Traps.{drops_before, trap_before}
 use Rattle.sh_kernel.specs.State.{KernelState}
@@ -12,7 +15,7 @@ use Rattle.sh_exec.specs.declared.turn_action.TurnAction.TheVariants as turn
 use Rattle.sh_exec_actions.specs.declared.action.Active.{Active}
 use Rattle.sh_exec_actions.specs.declared.action.Active.TheVariants.{Acting, Calling, Evaluating, Next, Done, Leaving}
 use Rattle.sh_exec_actions.specs.declared.action.Action.{Action}
-use Rattle.sh_exec_actions.specs.declared.action.Action.TheVariants.{Reading, Prompting, ReadInput, Expanding, ReadSubstitution, WaitSubstitution, ReadLine, Awaiting, SendSignal, ContinueJob, WaitForJob, Redirecting, Forking, Starting, ForkStage, ForkList, AssignLoopVariable, Defining, Waiting, Writing, Trapping, Ending}
+use Rattle.sh_exec_actions.specs.declared.action.Action.TheVariants.{Reading, Prompting, ReadInput, Expanding, ReadSubstitution, WaitSubstitution, Asking, WaitForJob, Redirecting, Forking, Starting, ForkStage, ForkList, AssignLoopVariable, Defining, Waiting, Writing, Trapping, Ending}
 use Rattle.sh_exec_actions.specs.declared.action.ToExpand.{ToExpand}
 use Rattle.sh_exec_actions.specs.declared.action.ToExpand.TheVariants.{Words, Values, Redirects, ForWords, CaseWord, CasePattern}
 use Rattle.sh_exec_shell.specs.Running.{active_of}
@@ -27,6 +30,13 @@ turn_action_of_expansion (ForWords command) = turn.Expand
 turn_action_of_expansion (CaseWord command) = turn.Expand
 turn_action_of_expansion (CasePattern choice) = turn.Expand
 
+-- what a built-in asks
+abbrev pub turn_action_of_ask : Asked → TurnAction
+turn_action_of_ask asked.Read = turn.Read
+turn_action_of_ask asked.Wait = turn.Wait
+turn_action_of_ask asked.Signal = turn.SendSignal
+turn_action_of_ask asked.Continue = turn.SendSignal
+
 abbrev pub turn_action_at : Action → TurnAction
 turn_action_at (Reading rest status) = turn.ReadCommand
 turn_action_at (Prompting beginning) = turn.Prompt
@@ -34,10 +44,7 @@ turn_action_at (ReadInput beginning) = turn.Read
 turn_action_at (Expanding wants pending) = turn_action_of_expansion wants
 turn_action_at (ReadSubstitution substitution) = turn.ReadSubstitution
 turn_action_at (WaitSubstitution substitution) = turn.Wait
-turn_action_at (ReadLine reader) = turn.Read
-turn_action_at (Awaiting awaited) = turn.Wait
-turn_action_at (SendSignal ask) = turn.SendSignal
-turn_action_at (ContinueJob continuation) = turn.SendSignal
+turn_action_at (Asking rest) = turn_action_of_ask (ask_of rest)
 turn_action_at (WaitForJob wait) = turn.Wait
 turn_action_at (Redirecting p) = turn.Redirect
 turn_action_at (Forking p) = turn.Fork
@@ -107,10 +114,7 @@ words_at (ReadInput beginning) = None
 words_at (Expanding wants pending) = None
 words_at (ReadSubstitution substitution) = None
 words_at (WaitSubstitution substitution) = None
-words_at (ReadLine reader) = None
-words_at (Awaiting awaited) = None
-words_at (SendSignal ask) = None
-words_at (ContinueJob continuation) = None
+words_at (Asking rest) = None
 words_at (WaitForJob wait) = None
 words_at (Redirecting p) = None
 words_at (Forking p) = None

@@ -2,8 +2,9 @@
 ghost use Rattle.std.specs.Prelude.{◌≡◌};
 ghost use Rattle.sh_kernel.specs.State.{KernelState, StandsAt};
 ghost use Rattle.sh_kernel.specs.Turns.{action_of};
-ghost use Rattle.sh_exec.specs.Actions.{action_at, action_in, action_for, awaiting, cause_for, collecting, is_called_in, shell_action, waiting};
+ghost use Rattle.sh_exec.specs.Actions.{action_at, action_in, action_for, asking, awaiting, cause_for, collecting, is_called_in, shell_action, waiting};
 
+use sh_builtin_outcome::BuiltinRest;
 use sh_builtin_shell::Shell;
 use sh_builtin_wait::Awaited;
 use sh_exec_actions::{Action, Active, PipelineWait};
@@ -35,6 +36,18 @@ fn awaiting<'a>(caught: Option<Signal>, background: &'a [u32], awaited: &'a Awai
     }
 }
 
+/// What a built-in asks.
+fn asking<'a>(caught: Option<Signal>, background: &'a [u32], rest: &'a BuiltinRest) -> Next<'a>
+    ensures { action_of result ≡ asking caught background.now rest.now }
+{
+    match rest {
+        BuiltinRest::Reads(_) => Next::Read(DescriptorRef::Number(0)),
+        BuiltinRest::Waits(awaited) => awaiting(caught, background, awaited),
+        BuiltinRest::Kills(_) => Next::Other,
+        BuiltinRest::Continues(_) => Next::Other,
+    }
+}
+
 /// With job control a shell waits for the processes of a pipeline also until they are stopped.
 fn waiting(wait: &PipelineWait) -> Next<'_>
     ensures { action_of result ≡ waiting wait.now.children wait.now.job }
@@ -56,10 +69,7 @@ fn action_at<'a>(caught: Option<Signal>, background: &'a [u32], place: &'a Actio
         Action::Expanding(_, _) => Next::Other,
         Action::ReadSubstitution(substitution) => collecting(substitution.aside),
         Action::WaitSubstitution(substitution) => Next::Wait(substitution.children.as_slice()),
-        Action::ReadLine(_) => Next::Read(DescriptorRef::Number(0)),
-        Action::Awaiting(awaited) => awaiting(caught, background, awaited),
-        Action::SendSignal(_) => Next::Other,
-        Action::ContinueJob(_) => Next::Other,
+        Action::Asking(rest) => asking(caught, background, rest),
         Action::WaitForJob(wait) => Next::WaitUntraced(wait.processes.as_slice()),
         Action::Redirecting(_) => Next::Other,
         Action::Forking(_) => Next::Other,

@@ -1,7 +1,7 @@
 //! What a process does in its next turn, for those who look on.
 ghost use Rattle.std.specs.Prelude.{◌≡◌, option_map};
 ghost use Rattle.sh_kernel.specs.State.{KernelState, StandsAt};
-ghost use Rattle.sh_exec.specs.TurnActions.{drops_in, takes_trap_in, turn_action_at, turn_action_for, turn_action_in, turn_action_of_expansion, words_at, words_in};
+ghost use Rattle.sh_exec.specs.TurnActions.{drops_in, takes_trap_in, turn_action_at, turn_action_for, turn_action_in, turn_action_of_ask, turn_action_of_expansion, words_at, words_in};
 
 use sh_base::sequence::Text;
 use sh_builtin_shell::Shell;
@@ -73,6 +73,18 @@ fn expansion(wants: &ToExpand) -> TurnAction
     }
 }
 
+/// What is asked for a built-in.
+fn asked(ask: sh_builtin_outcome::Ask) -> TurnAction
+    ensures { result ≡ turn_action_of_ask ask }
+{
+    match ask {
+        sh_builtin_outcome::Ask::Read => TurnAction::Read,
+        sh_builtin_outcome::Ask::Wait => TurnAction::Wait,
+        sh_builtin_outcome::Ask::Signal => TurnAction::SendSignal,
+        sh_builtin_outcome::Ask::Continue => TurnAction::SendSignal,
+    }
+}
+
 /// What is done at a place.
 fn at(place: &Action) -> TurnAction
     ensures { result ≡ turn_action_at place.now }
@@ -84,10 +96,7 @@ fn at(place: &Action) -> TurnAction
         Action::Expanding(wants, _) => expansion(wants),
         Action::ReadSubstitution(_) => TurnAction::ReadSubstitution,
         Action::WaitSubstitution(_) => TurnAction::Wait,
-        Action::ReadLine(_) => TurnAction::Read,
-        Action::Awaiting(_) => TurnAction::Wait,
-        Action::SendSignal(_) => TurnAction::SendSignal,
-        Action::ContinueJob(_) => TurnAction::SendSignal,
+        Action::Asking(rest) => asked(rest.ask()),
         Action::WaitForJob(_) => TurnAction::Wait,
         Action::Redirecting(_) => TurnAction::Redirect,
         Action::Forking(_) => TurnAction::Fork,

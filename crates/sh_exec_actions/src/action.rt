@@ -3,9 +3,7 @@ use crate::beginning::Beginning;
 use crate::status::CommandStatus;
 use sh_base::sequence::{Sequence, Text};
 use sh_base::shared::Shared;
-use sh_builtin_outcome::{
-    Awaited, Builtin, Completion, Continuation, Invocation, KillAsk, Leave, LineReader, TextRun,
-};
+use sh_builtin_outcome::{Builtin, BuiltinRest, Completion, Invocation, JobWait, Leave, TextRun};
 use sh_exec_machine::Undone;
 use sh_exec_parts::message::Piece;
 use sh_exec_parts::redirection::Redirection;
@@ -182,15 +180,6 @@ pub struct PipelineWait {
     pub job: Option<Text>,
 }
 
-/// A job that `fg` has brought to the foreground, for which a shell waits (XCU fg).
-#[derive(Drop)]
-pub struct JobWait {
-    /// The number of the job.
-    pub number: usize,
-    /// Its processes, the last of which gives the status.
-    pub processes: Sequence<u32>,
-}
-
 /// What a built-in has still to say, and how it ends then.
 #[derive(Drop)]
 pub struct Report {
@@ -231,14 +220,8 @@ pub enum Action {
     ReadSubstitution(Substitution),
     /// Wait for the end of that process.
     WaitSubstitution(Substitution),
-    /// Read by descriptor 0 for the built-in `read` (XCU read): the line so far.
-    ReadLine(LineReader),
-    /// Wait for the built-in `wait` (XCU wait).
-    Awaiting(Awaited),
-    /// Send a signal to what an operand of the built-in `kill` names (XCU kill).
-    SendSignal(KillAsk),
-    /// Send CONT to the next job that the built-in `bg` or `fg` continues (XCU bg, fg).
-    ContinueJob(Continuation),
+    /// Ask the kernel for a built-in, which does the rest behind the answer (XCU read, wait, kill, bg, fg).
+    Asking(BuiltinRest),
     /// Wait for the end or the stop of a job that `fg` has brought to the foreground.
     WaitForJob(JobWait),
     /// Do the next redirection of a command (2.7).

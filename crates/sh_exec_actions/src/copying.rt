@@ -2,13 +2,13 @@
 ghost use Rattle.std.specs.Prelude.{◌≡◌, IfOk};
 
 use crate::action::{
-    Action, Active, Case, CaseBranch, ExpandedCommand, Finish, ForLoop, JobWait, Launch, Pending,
+    Action, Active, Case, CaseBranch, ExpandedCommand, Finish, ForLoop, Launch, Pending,
     PipelineWait, ProgramStart, Report, Role, Saved, Stages, Substitution, ToExpand, Undo,
 };
 use sh_base::NoMemory;
 use sh_base::sequence::{Sequence, Text, copies_of};
 use sh_base::shared::Shared;
-use sh_builtin_outcome::{Completion, Continuation};
+use sh_builtin_outcome::Completion;
 use sh_exec_machine::Undone;
 use sh_exec_parts::message::Piece;
 use sh_exec_parts::{Copying, Queue, copy_all};
@@ -332,43 +332,6 @@ impl Copying for PipelineWait {
     }
 }
 
-impl Copying for JobWait {
-    fn copy(&self, alloc: Global) -> Result<JobWait, NoMemory> {
-        let processes = Sequence::copy_of(alloc, self.processes.as_slice())?;
-        Ok(JobWait {
-            number: self.number,
-            processes,
-        })
-    }
-}
-
-/// A copy of the jobs that a built-in continues.
-fn copy_continuation(alloc: Global, continuation: &Continuation) -> Result<Continuation, NoMemory>
-    ensures { IfOk result (λ copy. copy ≡ continuation.now) }
-{
-    match continuation {
-        Continuation::Background {
-            jobs,
-            messages,
-            status,
-        } => {
-            let jobs = Sequence::copy_of(alloc, jobs.as_slice())?;
-            match copy_texts(alloc, messages.as_slice()) {
-                Ok(messages) => Ok(Continuation::Background {
-                    jobs,
-                    messages,
-                    status: *status,
-                }),
-                Err(lack) => {
-                    drop(jobs);
-                    Err(lack)
-                },
-            }
-        },
-        Continuation::Foreground(job) => Ok(Continuation::Foreground(*job)),
-    }
-}
-
 /// A copy of how a built-in ends.
 fn copy_completion(alloc: Global, status: &Completion) -> Result<Completion, NoMemory>
     ensures { IfOk result (λ copy. copy ≡ status.now) }
@@ -377,12 +340,8 @@ fn copy_completion(alloc: Global, status: &Completion) -> Result<Completion, NoM
         Completion::Done(status) => Ok(Completion::Done(*status)),
         Completion::Left(leave) => Ok(Completion::Left(*leave)),
         Completion::Runs(origin, text) => Ok(Completion::Runs(*origin, text.copy(alloc)?)),
-        Completion::Reads(reader) => Ok(Completion::Reads(reader.copy(alloc)?)),
-        Completion::Waits(awaited) => Ok(Completion::Waits(awaited.copy(alloc)?)),
-        Completion::Kills(ask) => Ok(Completion::Kills(ask.copy(alloc)?)),
-        Completion::Continues(continuation) => {
-            Ok(Completion::Continues(copy_continuation(alloc, continuation)?))
-        },
+        Completion::Asks(rest) => Ok(Completion::Asks(rest.copy(alloc)?)),
+        Completion::Foreground(wait) => Ok(Completion::Foreground(wait.copy(alloc)?)),
     }
 }
 
@@ -455,12 +414,7 @@ impl Copying for Action {
             Action::WaitSubstitution(substitution) => {
                 Ok(Action::WaitSubstitution(substitution.copy(alloc)?))
             },
-            Action::ReadLine(reader) => Ok(Action::ReadLine(reader.copy(alloc)?)),
-            Action::Awaiting(awaited) => Ok(Action::Awaiting(awaited.copy(alloc)?)),
-            Action::SendSignal(ask) => Ok(Action::SendSignal(ask.copy(alloc)?)),
-            Action::ContinueJob(continuation) => {
-                Ok(Action::ContinueJob(copy_continuation(alloc, continuation)?))
-            },
+            Action::Asking(rest) => Ok(Action::Asking(rest.copy(alloc)?)),
             Action::WaitForJob(wait) => Ok(Action::WaitForJob(wait.copy(alloc)?)),
             Action::Redirecting(command) => Ok(Action::Redirecting(command.copy(alloc)?)),
             Action::Forking(command) => Ok(Action::Forking(command.copy(alloc)?)),

@@ -14,7 +14,7 @@ use Rattle.sh_exec_actions.specs.declared.action.Active.{Active}
 use Rattle.sh_exec_actions.specs.declared.action.Active.TheVariants.{Acting, Calling, Evaluating, Next, Done, Leaving}
 use Rattle.sh_exec_actions.specs.Beginnings.{not_begun}
 use Rattle.sh_exec_actions.specs.declared.action.Action.{Action}
-use Rattle.sh_exec_actions.specs.declared.action.Action.TheVariants.{Reading, Prompting, ReadInput, Expanding, ReadSubstitution, WaitSubstitution, ReadLine, Awaiting, SendSignal, ContinueJob, WaitForJob, Redirecting, Forking, Starting, ForkStage, ForkList, AssignLoopVariable, Defining, Waiting, Writing, Trapping, Ending}
+use Rattle.sh_exec_actions.specs.declared.action.Action.TheVariants.{Reading, Prompting, ReadInput, Expanding, ReadSubstitution, WaitSubstitution, Asking, WaitForJob, Redirecting, Forking, Starting, ForkStage, ForkList, AssignLoopVariable, Defining, Waiting, Writing, Trapping, Ending}
 use Rattle.sh_exec_actions.specs.declared.action.Undo.{Undo}
 use Rattle.sh_exec_actions.specs.declared.status.CommandStatus.{CommandStatus}
 use Rattle.sh_exec_machine.specs.Undoing as descriptors
@@ -220,10 +220,7 @@ place_left around s shell (ReadInput beginning) leave = input_left s shell leave
 place_left around s shell (Expanding wants pending) leave = with_run s shell (At (Leaving leave))
 place_left around s shell (ReadSubstitution substitution) leave = with_run s shell (At (Leaving leave))
 place_left around s shell (WaitSubstitution substitution) leave = with_run s shell (At (Leaving leave))
-place_left around s shell (ReadLine reader) leave = with_run s shell (At (Leaving leave))
-place_left around s shell (Awaiting awaited) leave = with_run s shell (At (Leaving leave))
-place_left around s shell (SendSignal ask) leave = with_run s shell (At (Leaving leave))
-place_left around s shell (ContinueJob continuation) leave = with_run s shell (At (Leaving leave))
+place_left around s shell (Asking rest) leave = with_run s shell (At (Leaving leave))
 place_left around s shell (WaitForJob wait) leave = with_run s shell (At (Leaving leave))
 place_left around s shell (Redirecting p) leave = with_run s shell (At (Leaving leave))
 place_left around s shell (Forking p) leave = with_run s shell (At (Leaving leave))

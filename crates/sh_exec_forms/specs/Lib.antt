@@ -20,7 +20,7 @@ pub use Rattle.sh_exec_entering.specs.JobTexts
 pub use Rattle.sh_exec_entering.specs.Moves
 pub use Rattle.sh_exec_entering.specs.Running
 pub use Rattle.sh_exec_entering.specs.Stacks
-pub use Rattle.sh_exec_requests.specs.Awaiting
+pub use Rattle.sh_exec_requests.specs.Asking
 pub use Rattle.sh_exec_requests.specs.Continuing
 pub use Rattle.sh_exec_requests.specs.LineReading
 pub use Rattle.sh_exec_requests.specs.Placed

@@ -15,8 +15,7 @@ pub use sh_exec_command::{
 };
 pub use sh_exec_entering::{Frames, body_of, enter, enter_list, go_to, list_body, stage};
 pub use sh_exec_requests::{
-    after_write, answer_turn, await_turn, continue_turn, finish_drop, heed_own_signals,
-    input_action, is_dropping, is_interrupt_next, job_wait_turn, most_read, pending_action,
-    pending_signal, prompt_turn, read_line_turn, release_own_signals, signal_turn,
-    take_terminal_back, wait_turn,
+    after_write, answer_turn, ask_turn, finish_drop, heed_own_signals, input_action, is_dropping,
+    is_interrupt_next, job_wait_turn, most_read, pending_action, pending_signal, prompt_turn,
+    release_own_signals, take_terminal_back, wait_turn,
 };

@@ -1,4 +1,4 @@
-pub mod Awaiting
+pub mod Asking
 pub mod Continuing
 pub mod LineReading
 pub mod Placed

@@ -5,7 +5,7 @@ use Rattle.sh_builtin_outcome.specs.declared.outcome.Completion.{Completion}
 use Rattle.sh_builtin_outcome.specs.declared.outcome.Completion.TheVariants as completion
 use Rattle.sh_builtin_outcome.specs.declared.outcome.Outcome.{Outcome}
 use Rattle.sh_exec_actions.specs.Statuses.{unexcused}
-use Rattle.sh_exec_actions.specs.declared.action.Action.TheVariants.{Awaiting, ContinueJob, ReadLine, SendSignal, Writing}
+use Rattle.sh_exec_actions.specs.declared.action.Action.TheVariants.{Asking, WaitForJob, Writing}
 use Rattle.sh_exec_actions.specs.declared.action.Active.{Active}
 use Rattle.sh_exec_actions.specs.declared.action.Active.TheVariants.{Evaluating, Next, Done, Leaving}
 use Rattle.sh_exec_actions.specs.declared.action.Finish.TheVariants.{Messages, Output}
@@ -15,10 +15,8 @@ abbrev pub at_completion : Completion → Active
 at_completion (completion.Done status) = Done (unexcused status)
 at_completion (completion.Left leave) = Leaving leave
 at_completion (completion.Runs how text) = Evaluating how text
-at_completion (completion.Reads reader) = Next (ReadLine reader)
-at_completion (completion.Waits awaited) = Next (Awaiting awaited)
-at_completion (completion.Kills ask) = Next (SendSignal ask)
-at_completion (completion.Continues continuation) = Next (ContinueJob continuation)
+at_completion (completion.Asks rest) = Next (Asking rest)
+at_completion (completion.Foreground wait) = Next (WaitForJob wait)
 
 -- ---- its messages are written to descriptor 2, each in a turn of its own, and then it ends
 abbrev pub said : List (List ℕ) → Completion → Active

@@ -1,22 +1,11 @@
--- The signals of a shell's process: what it does with those whose traps are set (XCU 2.15 trap), the trap that is taken next, and the turns
--- in which `kill` sends a signal (XCU kill).
+-- The signals of a shell's process: what it does with those whose traps are set (XCU 2.15 trap), the trap that is taken next, and what `kill`
+-- sends (XCU kill).
 use Rattle.std.specs.Prelude.{ℕ, List, [], ◌∷◌, ◌&&◌, Bool, true, false, nat_eq, not, Option, Some, None, Result, Ok, Err, if◌then◌else◌}
 use Rattle.std.specs.List.{list_any}
 use Rattle.std.specs.Option.{is_some, option_and_then, option_map_or}
-use Rattle.sh_builtin.specs.Running.{control_of}
-use Rattle.sh_builtin_outcome.specs.declared.outcome.Completion.TheVariants as completion
-use Rattle.sh_builtin_shell.specs.Shells.{has_job_control, is_interactive, up_to_date}
+use Rattle.sh_builtin_shell.specs.Shells.{has_job_control, is_interactive}
 use Rattle.sh_builtin_shell.specs.declared.shell.Shell.{Shell}
 use Rattle.sh_builtin_environment.specs.TrapMaps.{action_of}
-use Rattle.sh_builtin_jobs.specs.KillRuns.{kill_next}
-use Rattle.sh_builtin_jobs.specs.declared.run.KillAsk.{KillAsk}
-use Rattle.sh_builtin_jobs.specs.declared.run.KillStep.{KillStep}
-use Rattle.sh_builtin_jobs.specs.declared.run.KillStep.TheVariants.{Asks, Over}
-use Rattle.sh_exec_actions.specs.declared.action.Action.TheVariants.{SendSignal}
-use Rattle.sh_exec_actions.specs.declared.action.Active.{Active}
-use Rattle.sh_exec_actions.specs.declared.action.Active.TheVariants.{Next}
-use Rattle.sh_exec_requests.specs.Placed.{Placed, at_place}
-use Rattle.sh_exec_requests.specs.Reporting.{said}
 use Rattle.sh_jobs.specs.declared.fault.JobFault.{JobFault}
 use Rattle.sh_kernel.specs.Calls.{after_set_action, kill_call}
 use Rattle.sh_kernel.specs.State.{KernelState}
@@ -146,18 +135,3 @@ abbrev pub after_sending : KernelState → Option Signal → Result SignalTarget
 after_sending s None target = s
 after_sending s (Some signal) (Err fault) = s
 after_sending s (Some signal) (Ok target) = (kill_call s target signal).after
-
--- the next operand, or the messages, each in a turn of its own
-abbrev pub step_place : KillStep → Active
-step_place (Asks ask) = Next (SendSignal ask)
-step_place (Over report) = said report.messages (completion.Done report.status)
-
-abbrev pub next_operand : KernelState → Shell → KillAsk → (is_reached : Bool) → Placed
-next_operand s shell ask is_reached =
-    at_place s shell (step_place (kill_next (control_of s shell) s.machine.processes shell.jobs ask is_reached))
-
-abbrev pub signal_sent : KernelState → Shell → KillAsk → (is_reached : Bool) → Placed
-signal_sent s shell ask is_reached = next_operand s (up_to_date s shell) ask is_reached
-
-unfoldable pub signal_turn : KernelState → Shell → KillAsk → Placed
-signal_turn s shell ask = signal_sent (after_sending s ask.send.signal ask.target) shell ask (is_reached s ask.target)

@@ -3,9 +3,11 @@ use Rattle.std.specs.Prelude.{ℕ, drop}
 use Rattle.sh_builtin_outcome.specs.Builtins.{name_of}
 use Rattle.sh_builtin_outcome.specs.declared.outcome.Completion.{Completion}
 use Rattle.sh_builtin_outcome.specs.declared.outcome.Completion.TheVariants as completion
-use Rattle.sh_builtin_outcome.specs.declared.outcome.Continuation.{Continuation}
-use Rattle.sh_builtin_outcome.specs.declared.outcome.Continuation.TheVariants.{Background, Foreground}
+use Rattle.sh_builtin_outcome.specs.declared.rest.Continuation.{Continuation}
+use Rattle.sh_builtin_outcome.specs.declared.rest.Continuation.TheVariants.{Background, Foreground}
 use Rattle.sh_builtin_outcome.specs.declared.outcome.Leave.TheVariants as leave
+use Rattle.sh_builtin_outcome.specs.declared.rest.BuiltinRest.{BuiltinRest}
+use Rattle.sh_builtin_outcome.specs.declared.rest.BuiltinRest.TheVariants.{Reads, Waits, Kills, Continues}
 use Rattle.sh_exec_actions.specs.Statuses.{unexcused}
 use Rattle.sh_exec_actions.specs.declared.action.Action.TheVariants.{Writing}
 use Rattle.sh_exec_actions.specs.declared.action.Active.{Active}
@@ -29,14 +31,18 @@ abbrev pub continued_with : (status : ℕ) → Continuation → Continuation
 continued_with status (Background jobs messages before) = Background jobs messages status
 continued_with status (Foreground job) = Foreground job
 
+abbrev pub failed_asking : BuiltinRest → Completion
+failed_asking (Reads reader) = completion.Done 1
+failed_asking (Waits awaited) = completion.Done 1
+failed_asking (Kills ask) = completion.Done 1
+failed_asking (Continues continuation) = completion.Asks (Continues (continued_with 1 continuation))
+
 abbrev pub failed : Completion → Completion
 failed (completion.Done status) = completion.Done 1
 failed (completion.Left leave) = completion.Done 1
 failed (completion.Runs how text) = completion.Done 1
-failed (completion.Reads reader) = completion.Done 1
-failed (completion.Waits awaited) = completion.Done 1
-failed (completion.Kills ask) = completion.Done 1
-failed (completion.Continues continuation) = completion.Continues (continued_with 1 continuation)
+failed (completion.Asks rest) = failed_asking rest
+failed (completion.Foreground wait) = completion.Foreground wait
 
 -- a message that can't be written is dropped; that the output couldn't be written is told before the other messages
 abbrev pub unwritten : Finish → Active

@@ -16,10 +16,8 @@ fn at_completion(status: Completion) -> Active
         Completion::Done(status) => Active::Done(CommandStatus::unexcused(status)),
         Completion::Left(leave) => Active::Leaving(leave),
         Completion::Runs(how, text) => Active::Evaluating(how, text),
-        Completion::Reads(reader) => Active::Next(Action::ReadLine(reader)),
-        Completion::Waits(awaited) => Active::Next(Action::Awaiting(awaited)),
-        Completion::Kills(ask) => Active::Next(Action::SendSignal(ask)),
-        Completion::Continues(continuation) => Active::Next(Action::ContinueJob(continuation)),
+        Completion::Asks(rest) => Active::Next(Action::Asking(rest)),
+        Completion::Foreground(wait) => Active::Next(Action::WaitForJob(wait)),
     }
 }
 

@@ -1,26 +1,16 @@
 //! The signals of a shell's process.
-ghost use Rattle.std.specs.Prelude.{◌≡◌, [], IfOk, OnOk, option_map};
-ghost use Rattle.sh_builtin.specs.Running.{control_of};
+ghost use Rattle.std.specs.Prelude.{◌≡◌, [], OnOk, option_map};
 ghost use Rattle.sh_builtin_environment.specs.TrapMaps.{action_of};
-ghost use Rattle.sh_builtin_jobs.specs.KillRuns.{kill_next};
-ghost use Rattle.sh_exec_requests.specs.Placed.{IsPlaced};
-ghost use Rattle.sh_exec_requests.specs.Signals.{after_drop, after_own_signals, after_release, after_releases, after_sending, after_start_of, after_trap_in, after_trap_set, after_traps, after_traps_in, interactive_action, is_dropping, is_interrupt, is_interrupt_next, is_interrupt_pending, is_reached, next_operand, own_action, own_ignored, own_signals, pending_action, pending_signal, released_action, signal_action, signal_sent, signal_turn, step_place};
+ghost use Rattle.sh_exec_requests.specs.Signals.{after_drop, after_own_signals, after_release, after_releases, after_sending, after_start_of, after_trap_in, after_trap_set, after_traps, after_traps_in, interactive_action, is_dropping, is_interrupt, is_interrupt_next, is_interrupt_pending, is_reached, own_action, own_ignored, own_signals, pending_action, pending_signal, released_action, signal_action};
 ghost use Rattle.sh_kernel.specs.State.{KernelState, StandsAt};
 ghost use Rattle.sh_signal.specs.declared.condition.Condition.TheVariants as condition;
 
-use crate::reporting::reported;
 use sh_base::NoMemory;
-use sh_builtin::job_control;
-use sh_builtin_jobs::{KillAsk, KillStep};
-use sh_builtin_outcome::Completion;
 use sh_builtin_shell::Shell;
-use sh_exec_actions::{Action, Active, Report};
-use sh_exec_parts::Queue;
 use sh_jobs::JobFault;
 use sh_kernel::{Kernel, KernelFault};
 use sh_kernel_signals::{SignalAction, SignalSet, SignalTarget};
 use sh_signal::{Condition, Signal};
-use std::alloc::Global;
 
 /// What an interactive shell does by itself with a signal.
 fn interactive_action(control: bool, signal: Signal) -> SignalAction
@@ -258,7 +248,7 @@ pub fn finish_drop(kernel: &mut Kernel, shell: &Shell)
 }
 
 /// Whether an operand of kill names a process that lives.
-fn is_reached(kernel: &Kernel, target: &Result<SignalTarget, JobFault>) -> bool
+pub(crate) fn is_reached(kernel: &Kernel, target: &Result<SignalTarget, JobFault>) -> bool
     ensures { (s : KernelState) → StandsAt kernel.now s → result ≡ is_reached s target.now }
 {
     match target {
@@ -286,7 +276,7 @@ pub(crate) fn send_to(
 }
 
 /// A signal is sent to what an operand of kill names, if it names anything.
-fn send(
+pub(crate) fn send(
     kernel: &mut Kernel,
     target: &Result<SignalTarget, JobFault>,
     signal: Option<Signal>,
@@ -302,77 +292,5 @@ fn send(
     match target {
         Ok(target) => send_to(kernel, target, signal),
         Err(_) => Ok(()),
-    }
-}
-
-/// What follows an operand of kill.
-fn step_place(step: KillStep) -> Active
-    ensures { result ≡ step_place step }
-{
-    match step {
-        KillStep::Asks(ask) => Active::Next(Action::SendSignal(ask)),
-        KillStep::Over(report) => reported(Report {
-            messages: Queue::new(report.messages),
-            status: Completion::Done(report.status),
-        }),
-    }
-}
-
-/// The next operand of kill is looked up.
-fn next_operand(
-    alloc: Global,
-    kernel: &Kernel,
-    shell: &Shell,
-    ask: KillAsk,
-    is_reached: bool,
-) -> Result<Active, NoMemory>
-    ensures { (s : KernelState) → StandsAt kernel.now s → IfOk result (λ active.
-        IsPlaced kernel.now shell.now active (next_operand s shell.now ask is_reached)) }
-{
-    let control = job_control(kernel, shell);
-    let step = ask.go_on(alloc, control, kernel, &shell.jobs, is_reached)?;
-    Ok(step_place(step))
-}
-
-/// The operand of kill is done with.
-fn sent(
-    alloc: Global,
-    kernel: &Kernel,
-    shell: &mut Shell,
-    ask: KillAsk,
-    is_reached: bool,
-) -> Result<Active, NoMemory>
-    ensures { (s : KernelState) → StandsAt kernel.now s → IfOk result (λ active.
-        IsPlaced kernel.now shell.new active (signal_sent s shell.old ask is_reached)) }
-{
-    shell.bring_jobs_up_to_date(kernel);
-    let active = next_operand(alloc, kernel, shell, ask, is_reached)?;
-    Ok(active)
-}
-
-/// The turn in which kill sends its signal to what an operand names (XCU kill). It may end or stop the shell itself. The only error is want of
-/// memory; what the terminal shows is as it was.
-#[tactic(auto, unfolding(crate::specs::Signals::signal_turn))]
-pub fn signal_turn(
-    alloc: Global,
-    kernel: &mut Kernel,
-    shell: &mut Shell,
-    ask: KillAsk,
-) -> Result<Active, NoMemory>
-    ensures state { (s : KernelState) → StandsAt kernel.old s → IfOk result (λ active.
-        IsPlaced kernel.new shell.new active (signal_turn s shell.old ask)) }
-    ensures terminal { kernel.new.terminal ≡ kernel.old.terminal }
-    ensures watch { kernel.new.watch ≡ kernel.old.watch }
-{
-    let is_reached = is_reached(kernel, &ask.target);
-    match send(kernel, &ask.target, ask.send.signal) {
-        Ok(()) => {
-            let active = sent(alloc, kernel, shell, ask, is_reached)?;
-            Ok(active)
-        },
-        Err(lack) => {
-            drop(ask);
-            Err(lack)
-        },
     }
 }

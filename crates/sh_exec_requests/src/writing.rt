@@ -1,11 +1,11 @@
 //! What follows a write of a shell.
 ghost use Rattle.std.specs.Prelude.{◌≡◌, IfOk, drop};
-ghost use Rattle.sh_exec_requests.specs.Writing.{after_writing, continued_with, failed, unwritten, written_by};
+ghost use Rattle.sh_exec_requests.specs.Writing.{after_writing, continued_with, failed, failed_asking, unwritten, written_by};
 
 use crate::reporting::reported;
 use sh_base::NoMemory;
 use sh_base::sequence::Text;
-use sh_builtin_outcome::{Completion, Continuation, Leave};
+use sh_builtin_outcome::{BuiltinRest, Completion, Continuation, Leave};
 use sh_exec_actions::{Action, Active, CommandStatus, Finish, Report};
 use sh_exec_machine::WriteOutcome;
 use sh_exec_parts::message::{Piece, write_error};
@@ -37,6 +37,21 @@ fn continued_with(status: u8, continuation: Continuation) -> Continuation
     }
 }
 
+/// How a built-in ends whose output couldn't be written, and which was to ask the kernel.
+fn failed_asking(rest: BuiltinRest) -> Completion
+    ensures { result ≡ failed_asking rest }
+{
+    match rest {
+        BuiltinRest::Reads(_) => Completion::Done(1),
+        BuiltinRest::Waits(_) => Completion::Done(1),
+        BuiltinRest::Kills(_) => Completion::Done(1),
+        BuiltinRest::Continues(continuation) => {
+            let continuation = continued_with(1, continuation);
+            Completion::Asks(BuiltinRest::Continues(continuation))
+        },
+    }
+}
+
 /// How a built-in ends whose output couldn't be written.
 fn failed(status: Completion) -> Completion
     ensures { result ≡ failed status }
@@ -45,12 +60,8 @@ fn failed(status: Completion) -> Completion
         Completion::Done(_) => Completion::Done(1),
         Completion::Left(_) => Completion::Done(1),
         Completion::Runs(_, _) => Completion::Done(1),
-        Completion::Reads(_) => Completion::Done(1),
-        Completion::Waits(_) => Completion::Done(1),
-        Completion::Kills(_) => Completion::Done(1),
-        Completion::Continues(continuation) => {
-            Completion::Continues(continued_with(1, continuation))
-        },
+        Completion::Asks(rest) => failed_asking(rest),
+        Completion::Foreground(wait) => Completion::Foreground(wait),
     }
 }
 

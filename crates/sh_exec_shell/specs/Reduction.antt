@@ -10,14 +10,13 @@ use Rattle.sh_exec_actions.specs.declared.action.Active.TheVariants.{Acting, Cal
 use Rattle.sh_exec_actions.specs.declared.action.Expanded.{Expanded}
 use Rattle.sh_exec_actions.specs.declared.action.Expanded.TheVariants as expanded
 use Rattle.sh_exec_actions.specs.declared.action.Action.{Action}
-use Rattle.sh_exec_actions.specs.declared.action.Action.TheVariants.{Reading, Prompting, ReadInput, Expanding, ReadSubstitution, WaitSubstitution, ReadLine, Awaiting, SendSignal, ContinueJob, WaitForJob, Redirecting, Forking, Starting, ForkStage, ForkList, AssignLoopVariable, Defining, Waiting, Writing, Trapping, Ending}
+use Rattle.sh_exec_actions.specs.declared.action.Action.TheVariants.{Reading, Prompting, ReadInput, Expanding, ReadSubstitution, WaitSubstitution, Asking, WaitForJob, Redirecting, Forking, Starting, ForkStage, ForkList, AssignLoopVariable, Defining, Waiting, Writing, Trapping, Ending}
 use Rattle.sh_exec_turns.specs.Acting.{collect_turn, defined, end_turn, ending, expand_turn, given_round, next, read_turn, redirect_turn, trap_turn, write_turn}
-use Rattle.sh_exec_turns.specs.Awaiting.{await_turn}
-use Rattle.sh_exec_turns.specs.LineReading.{read_line_turn}
+use Rattle.sh_exec_turns.specs.Asking.{ask_turn}
 use Rattle.sh_exec_turns.specs.Placed.{Placed}
 use Rattle.sh_exec_turns.specs.Prompting.{prompt_turn}
-use Rattle.sh_exec_turns.specs.Continuing.{continue_turn, job_wait_turn}
-use Rattle.sh_exec_turns.specs.Signals.{after_drop, signal_turn}
+use Rattle.sh_exec_turns.specs.Continuing.{job_wait_turn}
+use Rattle.sh_exec_turns.specs.Signals.{after_drop}
 use Rattle.sh_exec_turns.specs.Waiting.{answer_turn, wait_turn}
 use Rattle.sh_exec_turns.specs.Input.{input_turn}
 use Rattle.sh_exec_turns.specs.Traps.{drops_before, interruption, trap_before}
@@ -54,10 +53,7 @@ act_place around s shell (ReadInput beginning) = plain (input_turn s shell begin
 act_place around s shell (Expanding wants pending) = expansion s shell (expand_turn s.machine.files shell.vars shell.functions wants pending)
 act_place around s shell (ReadSubstitution substitution) = plain (collect_turn s shell substitution)
 act_place around s shell (WaitSubstitution substitution) = plain (with_run s shell (next (answer_turn s shell.pid substitution)))
-act_place around s shell (ReadLine reader) = placed (read_line_turn s shell reader)
-act_place around s shell (Awaiting awaited) = placed (await_turn s shell awaited)
-act_place around s shell (SendSignal ask) = placed (signal_turn s shell ask)
-act_place around s shell (ContinueJob continuation) = placed (continue_turn s shell continuation)
+act_place around s shell (Asking rest) = placed (ask_turn s shell rest)
 act_place around s shell (WaitForJob wait) = placed (job_wait_turn s shell wait)
 act_place around s shell (Redirecting p) = plain (redirect_turn s shell p)
 act_place around s shell (Forking p) = fork_turn around s shell p
@@ -124,10 +120,7 @@ dropped_run (ReadInput beginning) = In (Input []) dropped
 dropped_run (Expanding wants pending) = dropped
 dropped_run (ReadSubstitution substitution) = dropped
 dropped_run (WaitSubstitution substitution) = dropped
-dropped_run (ReadLine reader) = dropped
-dropped_run (Awaiting awaited) = dropped
-dropped_run (SendSignal ask) = dropped
-dropped_run (ContinueJob continuation) = dropped
+dropped_run (Asking rest) = dropped
 dropped_run (WaitForJob wait) = dropped
 dropped_run (Redirecting p) = dropped
 dropped_run (Forking p) = dropped

@@ -19,10 +19,10 @@ use sh_base::shared::Shared;
 use sh_builtin_shell::{Functions, Shell};
 use sh_exec_actions::{Action, Active, CommandStatus, Expanded, ForLoop, Form, Pending, ToExpand};
 use sh_exec_turns::{
-    Frames, Round, answer_turn, assign_turn, await_turn, case_turn, collect_turn, continue_turn,
-    define_turn, end_turn, enter_list, give_turn, go_to, goes_on_reading, input_turn, interrupt,
-    job_wait_turn, pattern_turn, prompt_turn, read, read_line_turn, redirect_turn, redirects_turn,
-    series_turn, settle, signal_turn, trap, trap_before, wait_turn, words_turn, write_turn,
+    Frames, Round, answer_turn, ask_turn, assign_turn, case_turn, collect_turn, define_turn,
+    end_turn, enter_list, give_turn, go_to, goes_on_reading, input_turn, interrupt, job_wait_turn,
+    pattern_turn, prompt_turn, read, redirect_turn, redirects_turn, series_turn, settle, trap,
+    trap_before, wait_turn, words_turn, write_turn,
 };
 use sh_files::Files;
 use sh_kernel::Kernel;
@@ -213,20 +213,8 @@ fn act_place(
             let place = answer_turn(kernel, shell.pid, substitution)?;
             Ok((Active::Next(place), None))
         },
-        Action::ReadLine(reader) => {
-            let active = read_line_turn(alloc, kernel, shell, reader)?;
-            Ok((active, None))
-        },
-        Action::Awaiting(awaited) => {
-            let active = await_turn(alloc, kernel, shell, awaited)?;
-            Ok((active, None))
-        },
-        Action::SendSignal(ask) => {
-            let active = signal_turn(alloc, kernel, shell, ask)?;
-            Ok((active, None))
-        },
-        Action::ContinueJob(continuation) => {
-            let active = continue_turn(alloc, kernel, shell, continuation)?;
+        Action::Asking(rest) => {
+            let active = ask_turn(alloc, kernel, shell, rest)?;
             Ok((active, None))
         },
         Action::WaitForJob(wait) => {

@@ -2,7 +2,7 @@ pub mod Acting
 pub mod Groups
 pub mod Input
 pub mod Traps
-pub use Rattle.sh_exec_forms.specs.Awaiting
+pub use Rattle.sh_exec_forms.specs.Asking
 pub use Rattle.sh_exec_forms.specs.Bodies
 pub use Rattle.sh_exec_forms.specs.Builtins
 pub use Rattle.sh_exec_forms.specs.Codes

@@ -1,9 +1,12 @@
 -- Traps on signals (XCU 2.15 trap, 2.12): before which actions of a shell that of a trap may come, and the turn in which it is taken.
 use Rattle.std.specs.Option.{is_some}
 use Rattle.std.specs.Prelude.{ℕ, zero, suc, List, [], ◌∷◌, ◌&&◌, ◌||◌, Bool, true, false, not, Option, Some, None, if◌then◌else◌}
+use Rattle.sh_builtin_outcome.specs.Rests.{ask_of}
+use Rattle.sh_builtin_outcome.specs.declared.rest.Ask.{Ask}
+use Rattle.sh_builtin_outcome.specs.declared.rest.Ask.TheVariants as ask
 use Rattle.sh_builtin_shell.specs.declared.shell.Shell.{Shell}
 use Rattle.sh_exec_actions.specs.declared.action.Action.{Action}
-use Rattle.sh_exec_actions.specs.declared.action.Action.TheVariants.{Reading, Prompting, ReadInput, Expanding, ReadSubstitution, WaitSubstitution, ReadLine, Awaiting, SendSignal, ContinueJob, WaitForJob, Redirecting, Forking, Starting, ForkStage, ForkList, AssignLoopVariable, Defining, Waiting, Writing, Trapping, Ending}
+use Rattle.sh_exec_actions.specs.declared.action.Action.TheVariants.{Reading, Prompting, ReadInput, Expanding, ReadSubstitution, WaitSubstitution, Asking, WaitForJob, Redirecting, Forking, Starting, ForkStage, ForkList, AssignLoopVariable, Defining, Waiting, Writing, Trapping, Ending}
 use Rattle.sh_exec_actions.specs.declared.action.Pending.{Pending}
 use Rattle.sh_exec_actions.specs.declared.action.ToExpand.{ToExpand}
 use Rattle.sh_exec_actions.specs.declared.action.ToExpand.TheVariants.{Words, Values, Redirects, ForWords, CaseWord, CasePattern}
@@ -53,10 +56,7 @@ may_interrupt (ReadInput beginning) = true
 may_interrupt (Expanding wants pending) = begins wants pending
 may_interrupt (ReadSubstitution substitution) = false
 may_interrupt (WaitSubstitution substitution) = false
-may_interrupt (ReadLine reader) = false
-may_interrupt (Awaiting awaited) = false
-may_interrupt (SendSignal ask) = false
-may_interrupt (ContinueJob continuation) = false
+may_interrupt (Asking rest) = false
 may_interrupt (WaitForJob wait) = false
 may_interrupt (Redirecting p) = false
 may_interrupt (Forking p) = false
@@ -88,10 +88,7 @@ shell_before shell (ReadInput beginning) = shell
 shell_before shell (Expanding wants pending) = shell
 shell_before shell (ReadSubstitution substitution) = shell
 shell_before shell (WaitSubstitution substitution) = shell
-shell_before shell (ReadLine reader) = shell
-shell_before shell (Awaiting awaited) = shell
-shell_before shell (SendSignal ask) = shell
-shell_before shell (ContinueJob continuation) = shell
+shell_before shell (Asking rest) = shell
 shell_before shell (WaitForJob wait) = shell
 shell_before shell (Redirecting p) = shell
 shell_before shell (Forking p) = shell
@@ -110,6 +107,12 @@ interruption around s shell place text = interrupted (levels_left around) (after
 
 -- ---- INT without a trap: an interactive shell drops what it does (sh, ASYNCHRONOUS EVENTS), where it would take a trap, and where the built-in wait
 -- waits, unless a signal with a lower number comes first
+abbrev pub is_wait : Ask → Bool
+is_wait ask.Read = false
+is_wait ask.Wait = true
+is_wait ask.Signal = false
+is_wait ask.Continue = false
+
 abbrev pub may_drop : Action → Bool
 may_drop (Reading rest status) = true
 may_drop (Prompting beginning) = false
@@ -117,10 +120,7 @@ may_drop (ReadInput beginning) = true
 may_drop (Expanding wants pending) = begins wants pending
 may_drop (ReadSubstitution substitution) = false
 may_drop (WaitSubstitution substitution) = false
-may_drop (ReadLine reader) = false
-may_drop (Awaiting awaited) = true
-may_drop (SendSignal ask) = false
-may_drop (ContinueJob continuation) = false
+may_drop (Asking rest) = is_wait (ask_of rest)
 may_drop (WaitForJob wait) = false
 may_drop (Redirecting p) = false
 may_drop (Forking p) = false
@@ -135,6 +135,12 @@ may_drop (Trapping status) = true
 may_drop (Ending status) = false
 
 -- and at once where the built-in read reads, which is no place for a trap
+abbrev pub is_read : Ask → Bool
+is_read ask.Read = true
+is_read ask.Wait = false
+is_read ask.Signal = false
+is_read ask.Continue = false
+
 abbrev pub drops_at_once : Action → Bool
 drops_at_once (Reading rest status) = false
 drops_at_once (Prompting beginning) = false
@@ -142,10 +148,7 @@ drops_at_once (ReadInput beginning) = false
 drops_at_once (Expanding wants pending) = false
 drops_at_once (ReadSubstitution substitution) = false
 drops_at_once (WaitSubstitution substitution) = false
-drops_at_once (ReadLine reader) = true
-drops_at_once (Awaiting awaited) = false
-drops_at_once (SendSignal ask) = false
-drops_at_once (ContinueJob continuation) = false
+drops_at_once (Asking rest) = is_read (ask_of rest)
 drops_at_once (WaitForJob wait) = false
 drops_at_once (Redirecting p) = false
 drops_at_once (Forking p) = false

@@ -17,10 +17,9 @@ pub use output::{end_turn, write_turn};
 pub use reading::read;
 pub use redirecting::redirect_turn;
 pub use sh_exec_forms::{
-    Frames, Leave, Round, answer_turn, assign_turn, await_turn, body_of, case_turn, continue_turn,
-    define_turn, enter_list, fatal_message, finish_drop, give_turn, go_to, goes_on_reading,
-    heed_own_signals, job_wait_turn, list_body, pattern_turn, pending_signal, prompt_turn,
-    read_line_turn, redirects_turn, release_own_signals, series_turn, settle, signal_turn, stage,
-    wait_turn, words_turn,
+    Frames, Leave, Round, answer_turn, ask_turn, assign_turn, body_of, case_turn, define_turn,
+    enter_list, fatal_message, finish_drop, give_turn, go_to, goes_on_reading, heed_own_signals,
+    job_wait_turn, list_body, pattern_turn, pending_signal, prompt_turn, redirects_turn,
+    release_own_signals, series_turn, settle, stage, wait_turn, words_turn,
 };
 pub use traps::{drops_before, interrupt, is_called, is_interrupted, trap, trap_before};

@@ -9,13 +9,14 @@ ghost use Rattle.sh_exec_parts.specs.Messages.{refusal_text};
 ghost use Rattle.sh_exec_parts.specs.Simple.{compound_redirects};
 ghost use Rattle.sh_exec_parts.specs.declared.message.Refusal.TheVariants as refusal;
 ghost use Rattle.sh_exec_turns.specs.Acting.{in_forms, trap_turn, without_trap};
-ghost use Rattle.sh_exec_turns.specs.Traps.{begins, drops_at_once, drops_before, interrupted, interruption, is_called, is_first, is_none, may_drop, may_interrupt, shell_before, trap_before};
+ghost use Rattle.sh_exec_turns.specs.Traps.{begins, drops_at_once, drops_before, interrupted, interruption, is_called, is_first, is_none, is_read, is_wait, may_drop, may_interrupt, shell_before, trap_before};
 ghost use Rattle.sh_kernel.specs.State.{KernelState, StandsAt};
 
 use crate::reading::read;
 use sh_base::NoMemory;
 use sh_base::sequence::Text;
 use sh_builtin_environment::copy_of_action;
+use sh_builtin_outcome::Ask;
 use sh_builtin_shell::Shell;
 use sh_exec_actions::{Action, Active, Form, Pending, Suspended, ToExpand};
 use sh_exec_forms::{Frames, fatal_message, is_dropping, is_interrupt_next, pending_action};
@@ -109,10 +110,7 @@ fn may_interrupt(place: &Action) -> bool
         Action::Expanding(wants, pending) => begins(wants, pending),
         Action::ReadSubstitution(_) => false,
         Action::WaitSubstitution(_) => false,
-        Action::ReadLine(_) => false,
-        Action::Awaiting(_) => false,
-        Action::SendSignal(_) => false,
-        Action::ContinueJob(_) => false,
+        Action::Asking(_) => false,
         Action::WaitForJob(_) => false,
         Action::Redirecting(_) => false,
         Action::Forking(_) => false,
@@ -160,12 +158,32 @@ pub fn trap_before(
     Ok(text)
 }
 
+/// Whether the built-in wait waits.
+fn is_wait(ask: Ask) -> bool
+    ensures { result ≡ is_wait ask }
+{
+    match ask {
+        Ask::Wait => true,
+        Ask::Read | Ask::Signal | Ask::Continue => false,
+    }
+}
+
+/// Whether the built-in read reads.
+fn is_read(ask: Ask) -> bool
+    ensures { result ≡ is_read ask }
+{
+    match ask {
+        Ask::Read => true,
+        Ask::Wait | Ask::Signal | Ask::Continue => false,
+    }
+}
+
 /// Whether INT has an interactive shell drop what it does before an action, where no signal comes first.
 fn may_drop(place: &Action) -> bool
     ensures { result ≡ may_drop place.now }
 {
     match place {
-        Action::Awaiting(_) => true,
+        Action::Asking(rest) => is_wait(rest.ask()),
         other => may_interrupt(other),
     }
 }
@@ -174,7 +192,10 @@ fn may_drop(place: &Action) -> bool
 fn drops_at_once(place: &Action) -> bool
     ensures { result ≡ drops_at_once place.now }
 {
-    matches!(place, Action::ReadLine(_))
+    match place {
+        Action::Asking(rest) => is_read(rest.ask()),
+        _ => false,
+    }
 }
 
 /// Whether INT has an interactive shell drop what it does before what it is about to do (XCU sh, "ASYNCHRONOUS EVENTS"). Takes no memory.

@@ -5,7 +5,7 @@ use Rattle.sh_builtin_outcome.specs.declared.outcome.Leave.{Leave}
 use Rattle.sh_builtin_outcome.specs.declared.outcome.Leave.TheVariants as leave
 use Rattle.sh_builtin_shell.specs.declared.shell.Shell.{Shell}
 use Rattle.sh_exec_actions.specs.declared.action.Action.{Action}
-use Rattle.sh_exec_actions.specs.declared.action.Action.TheVariants.{Reading, Prompting, ReadInput, Expanding, ReadSubstitution, WaitSubstitution, ReadLine, Awaiting, SendSignal, ContinueJob, WaitForJob, Redirecting, Forking, Starting, ForkStage, ForkList, AssignLoopVariable, Defining, Waiting, Writing, Trapping, Ending}
+use Rattle.sh_exec_actions.specs.declared.action.Action.TheVariants.{Reading, Prompting, ReadInput, Expanding, ReadSubstitution, WaitSubstitution, Asking, WaitForJob, Redirecting, Forking, Starting, ForkStage, ForkList, AssignLoopVariable, Defining, Waiting, Writing, Trapping, Ending}
 use Rattle.sh_exec_actions.specs.declared.action.Active.{Active}
 use Rattle.sh_exec_actions.specs.declared.action.Active.TheVariants.{Acting, Calling, Evaluating, Next, Done, Leaving}
 use Rattle.sh_exec_actions.specs.declared.action.Saved.{Saved}
@@ -92,10 +92,7 @@ place_stays around s shell (Prompting b) l = refl
 place_stays around s shell (Expanding wants pending) l = refl
 place_stays around s shell (ReadSubstitution substitution) l = refl
 place_stays around s shell (WaitSubstitution substitution) l = refl
-place_stays around s shell (ReadLine reader) l = refl
-place_stays around s shell (Awaiting awaited) l = refl
-place_stays around s shell (SendSignal ask) l = refl
-place_stays around s shell (ContinueJob c) l = refl
+place_stays around s shell (Asking rest) l = refl
 place_stays around s shell (WaitForJob wait) l = refl
 place_stays around s shell (Redirecting p) l = refl
 place_stays around s shell (Forking p) l = refl
@@ -151,10 +148,7 @@ run_stays around s shell (Prompting b) = refl
 run_stays around s shell (Expanding wants pending) = refl
 run_stays around s shell (ReadSubstitution substitution) = refl
 run_stays around s shell (WaitSubstitution substitution) = refl
-run_stays around s shell (ReadLine reader) = refl
-run_stays around s shell (Awaiting awaited) = refl
-run_stays around s shell (SendSignal ask) = refl
-run_stays around s shell (ContinueJob c) = refl
+run_stays around s shell (Asking rest) = refl
 run_stays around s shell (WaitForJob wait) = refl
 run_stays around s shell (Redirecting p) = refl
 run_stays around s shell (Forking p) = refl

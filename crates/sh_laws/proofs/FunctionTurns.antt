@@ -12,11 +12,9 @@ use Rattle.sh_builtin_outcome.specs.declared.outcome.Leave.{Leave}
 use Rattle.sh_builtin_outcome.specs.declared.outcome.Leave.TheVariants as leave
 use Rattle.sh_builtin_shell.specs.declared.shell.Shell.{Shell}
 use Rattle.sh_builtin_environment.specs.Unsetting.{functions_to_unset}
-use Rattle.sh_builtin_regular.specs.Lines.{Progress, bytes_taken}
-use Rattle.sh_builtin_regular.specs.declared.reader.LineReader.{LineReader}
 use Rattle.sh_exec_actions.specs.Statuses.{unexcused}
 use Rattle.sh_exec_actions.specs.declared.action.Action.{Action}
-use Rattle.sh_exec_actions.specs.declared.action.Action.TheVariants.{Reading, Prompting, ReadInput, Expanding, ReadSubstitution, WaitSubstitution, ReadLine, Awaiting, SendSignal, ContinueJob, WaitForJob, Redirecting, Forking, Starting, ForkStage, ForkList, AssignLoopVariable, Defining, Waiting, Writing, Trapping, Ending}
+use Rattle.sh_exec_actions.specs.declared.action.Action.TheVariants.{Reading, Prompting, ReadInput, Expanding, ReadSubstitution, WaitSubstitution, Asking, WaitForJob, Redirecting, Forking, Starting, ForkStage, ForkList, AssignLoopVariable, Defining, Waiting, Writing, Trapping, Ending}
 use Rattle.sh_exec_actions.specs.declared.action.Active.{Active}
 use Rattle.sh_exec_actions.specs.declared.action.Active.TheVariants.{Acting, Calling, Evaluating, Next, Done, Leaving}
 use Rattle.sh_exec_actions.specs.declared.action.Expanded.{Expanded}
@@ -51,16 +49,10 @@ use Rattle.sh_exec_parts.specs.declared.message.Piece.{Piece}
 use Rattle.sh_exec_parts.specs.declared.redirection.Redirection.{Redirection}
 use Rattle.sh_exec.specs.Acting.{after_collection, collect_by, collect_end, collect_from, collect_turn, end_turn, expand_turn, next, redirect_from, redirect_one, redirect_turn, trap_by, trap_turn, with_written, write_turn}
 use Rattle.sh_exec_requests.specs.Placed.{Placed, at_place}
-use Rattle.sh_builtin_jobs.specs.declared.run.KillAsk.{KillAsk}
-use Rattle.sh_exec_requests.specs.Awaiting.{all_by, await_by, await_ended, await_turn, operand_by, without_target}
 use Rattle.sh_builtin_shell.specs.Shells.{has_job_control}
 use Rattle.sh_exec_actions.specs.declared.action.PipelineWait.{PipelineWait}
-use Rattle.sh_exec_requests.specs.Signals.{pending_signal, signal_turn}
-use Rattle.sh_builtin_outcome.specs.declared.outcome.Continuation.{Continuation}
-use Rattle.sh_builtin_outcome.specs.declared.outcome.Continuation.TheVariants as continuation
-use Rattle.sh_builtin_jobs.specs.declared.continuing.ContinuedJob.{ContinuedJob}
-use Rattle.sh_exec_actions.specs.declared.action.JobWait.{JobWait}
-use Rattle.sh_exec_requests.specs.Continuing.{background_turn, continue_turn, job_ended, job_wait_by, job_wait_turn}
+use Rattle.sh_builtin_outcome.specs.declared.rest.JobWait.{JobWait}
+use Rattle.sh_exec_requests.specs.Continuing.{job_ended, job_wait_by, job_wait_turn}
 use Rattle.sh_exec_requests.specs.Waiting.{controlled_by, terminal_back, wait_turn, wait_with}
 use Rattle.sh_jobs.specs.States.{state_of}
 use Rattle.sh_jobs.specs.declared.state.JobState.{JobState}
@@ -68,14 +60,11 @@ use Rattle.sh_jobs.specs.declared.state.JobState.TheVariants.{Running, Suspended
 use Rattle.sh_jobs.specs.declared.state.JobState.TheVariants as state
 use Rattle.sh_exec.specs.Traps.{interrupted, interruption, shell_before, trap_before}
 use Rattle.sh_kernel.specs.Calls.{after_take_signal}
-use Rattle.sh_signal.specs.declared.signal.Signal.{Signal}
-use Rattle.sh_builtin_wait.specs.Waits.{processes_of}
-use Rattle.sh_builtin_wait.specs.declared.run.Awaited.{Awaited}
-use Rattle.sh_builtin_wait.specs.declared.run.Awaited.TheVariants as awaited
-use Rattle.sh_builtin_wait.specs.declared.run.OperandWait.{OperandWait}
-use Rattle.sh_builtin_wait.specs.declared.target.WaitTarget.{WaitTarget}
-use Rattle.sh_builtin_wait.specs.declared.target.WaitTarget.TheVariants as target
-use Rattle.sh_exec_requests.specs.LineReading.{line_by, line_ended, line_goes_on, line_read_by, most_read, read_line_turn}
+use Rattle.sh_exec_requests.specs.Asking.{ask_by, ask_turn, asked}
+use Rattle.sh_exec_requests.specs.LineReading.{most_read}
+use Rattle.sh_builtin.specs.declared.answer.Answer.{Answer}
+use Rattle.sh_builtin_outcome.specs.declared.rest.BuiltinRest.{BuiltinRest}
+use Rattle.sh_laws.proofs.Resuming.{resumed_same}
 use Rattle.sh_exec.specs.Forks.{background_input, begun_substitution, fork_turn, is_foreground, is_more, launch_by, list_by, list_turn, made_shell, program_by, stage_by, stage_from, stage_input, stage_one, stage_shell, stage_turn, substitute_turn, substitution_by}
 use Rattle.sh_exec.specs.Groups.{behind_fork, released_fork}
 use Rattle.sh_exec.specs.Reduction.{act_at, act_behind, act_place, expanded_by, reduce}
@@ -258,10 +247,7 @@ place_left_keeps around s shell (Prompting b) l f = f
 place_left_keeps around s shell (Expanding wants pending) l f = f
 place_left_keeps around s shell (ReadSubstitution substitution) l f = f
 place_left_keeps around s shell (WaitSubstitution substitution) l f = f
-place_left_keeps around s shell (ReadLine reader) l f = f
-place_left_keeps around s shell (Awaiting awaited) l f = f
-place_left_keeps around s shell (SendSignal ask) l f = f
-place_left_keeps around s shell (ContinueJob c) l f = f
+place_left_keeps around s shell (Asking rest) l f = f
 place_left_keeps around s shell (WaitForJob wait) l f = f
 place_left_keeps around s shell (Redirecting p) l f = f
 place_left_keeps around s shell (Forking p) l f = f
@@ -337,55 +323,14 @@ collect_keeps : (s : KernelState) (shell : Shell) (substitution : Substitution) 
 unfolding collect_turn
 collect_keeps s shell substitution f = collect_end_keeps s shell substitution substitution.aside f
 
--- ---- the line of read
-line_ended_keeps : (s : KernelState) (shell : Shell) (reader : LineReader) (status : ℕ) → Keeps shell → PlacedKeeps (line_ended s shell reader status)
-unfolding line_ended
-line_ended_keeps s shell reader status f = f
+-- ---- a built-in asks
+ask_by_keeps : (s : KernelState) (shell : Shell) (rest : BuiltinRest) (o : Option Answer) → Keeps shell → PlacedKeeps (ask_by s shell rest o)
+ask_by_keeps s shell rest None f = f
+ask_by_keeps s shell rest (Some answer) f = subst FunctionsHold (sym (resumed_same s shell rest answer).functions) f
 
-line_by_keeps : (s : KernelState) (shell : Shell) (p : Progress) → Keeps shell → PlacedKeeps (line_by s shell p)
-line_by_keeps s shell p f =
-    choose PlacedKeeps p.over (line_ended s shell p.reader 0) (line_goes_on s shell p.reader) (λ e. line_ended_keeps s shell p.reader 0 f) (λ e. f)
-
-line_read_by_keeps : (s : KernelState) (shell : Shell) (reader : LineReader) (told : ReadOutcome) → Keeps shell → PlacedKeeps (line_read_by s shell reader told)
-line_read_by_keeps s shell reader (taken.Bytes bytes) f =
-    choose PlacedKeeps (nat_eq (length bytes) 0) (line_ended s shell reader 1) (line_by s shell (bytes_taken reader bytes))
-    (λ e. line_ended_keeps s shell reader 1 f) (λ e. line_by_keeps s shell (bytes_taken reader bytes) f)
-line_read_by_keeps s shell reader taken.Wait f = f
-line_read_by_keeps s shell reader taken.Failed f = line_ended_keeps s shell reader 1 f
-
-line_keeps : (s : KernelState) (shell : Shell) (reader : LineReader) → Keeps shell → PlacedKeeps (read_line_turn s shell reader)
-unfolding read_line_turn
-line_keeps s shell reader f = let t = take_bytes s shell.pid (Number 0) (most_read s.machine shell.pid) in line_read_by_keeps t.after shell reader t.told f
-
--- ---- what wait waits for
-target_keeps : (shell : Shell) (to : WaitTarget) → Keeps shell → Keeps (without_target shell to)
-target_keeps shell (target.Process pid) f = f
-target_keeps shell (target.Job number pids) f = f
-
-operand_keeps : (s : KernelState) (shell : Shell) (wait : OperandWait) (o : Option ℕ) → Keeps shell → PlacedKeeps (operand_by s shell wait o)
-operand_keeps s shell wait None f = f
-operand_keeps s shell wait (Some status) f = target_keeps shell wait.target f
-
-all_keeps : (s : KernelState) (shell : Shell) (o : Option ℕ) → Keeps shell → PlacedKeeps (all_by s shell o)
-all_keeps s shell None f = f
-all_keeps s shell (Some status) f = f
-
-await_ended_keeps : (s : KernelState) (shell : Shell) (a : Awaited) → Keeps shell → PlacedKeeps (await_ended s shell a)
-await_ended_keeps s shell awaited.All f = all_keeps s shell (wait_status s shell.pid shell.background) f
-await_ended_keeps s shell (awaited.Operand wait) f = operand_keeps s shell wait (wait_status s shell.pid (processes_of wait.target)) f
-
-await_by_keeps : (s : KernelState) (shell : Shell) (a : Awaited) (caught : Option Signal) → Keeps shell → PlacedKeeps (await_by s shell a caught)
-await_by_keeps s shell a None f = await_ended_keeps s shell a f
-await_by_keeps s shell a (Some signal) f = f
-
-await_keeps : (s : KernelState) (shell : Shell) (a : Awaited) → Keeps shell → PlacedKeeps (await_turn s shell a)
-unfolding await_turn
-await_keeps s shell a f = await_by_keeps s shell a (pending_signal s shell) f
-
--- ---- a signal is sent
-signal_keeps : (s : KernelState) (shell : Shell) (a : KillAsk) → Keeps shell → PlacedKeeps (signal_turn s shell a)
-unfolding signal_turn
-signal_keeps s shell a f = f
+ask_keeps : (s : KernelState) (shell : Shell) (rest : BuiltinRest) → Keeps shell → PlacedKeeps (ask_turn s shell rest)
+unfolding ask_turn
+ask_keeps s shell rest f = let a = asked s shell rest in ask_by_keeps a.after shell rest a.answer f
 
 -- ---- redirections, writes, and the end
 redirect_from_keeps : (s : KernelState) (shell : Shell) (p : ExpandedCommand) (redirections : List Redirection) → Keeps shell → ActedKeeps (redirect_from s shell p redirections)
@@ -422,10 +367,7 @@ before_keeps shell (ReadInput b) f = f
 before_keeps shell (Expanding wants pending) f = f
 before_keeps shell (ReadSubstitution substitution) f = f
 before_keeps shell (WaitSubstitution substitution) f = f
-before_keeps shell (ReadLine reader) f = f
-before_keeps shell (Awaiting awaited) f = f
-before_keeps shell (SendSignal ask) f = f
-before_keeps shell (ContinueJob c) f = f
+before_keeps shell (Asking rest) f = f
 before_keeps shell (WaitForJob wait) f = f
 before_keeps shell (Redirecting p) f = f
 before_keeps shell (Forking p) f = f
@@ -462,16 +404,7 @@ wait_keeps : (s : KernelState) (shell : Shell) (wait : PipelineWait) → Keeps s
 unfolding wait_turn
 wait_keeps s shell wait f = wait_with_keeps s shell wait.children wait.job f
 
--- ---- jobs go on, and the one in the foreground is waited for
-background_keeps : (s : KernelState) (shell : Shell) (jobs : List ContinuedJob) (messages : List (List ℕ)) (status : ℕ) → Keeps shell → PlacedKeeps (background_turn s shell jobs messages status)
-background_keeps s shell [] messages status f = f
-background_keeps s shell (job ∷ jobs) messages status f = f
-
-continue_keeps : (s : KernelState) (shell : Shell) (c : Continuation) → Keeps shell → PlacedKeeps (continue_turn s shell c)
-unfolding continue_turn
-continue_keeps s shell (continuation.Background jobs messages status) f = background_keeps s shell jobs messages status f
-continue_keeps s shell (continuation.Foreground job) f = f
-
+-- ---- the job in the foreground is waited for
 job_ended_keeps : (s : KernelState) (shell : Shell) (wait : JobWait) (o : Option ℕ) → Keeps shell → PlacedKeeps (job_ended s shell wait o)
 job_ended_keeps s shell wait None f = f
 job_ended_keeps s shell wait (Some status) f = f
@@ -590,10 +523,7 @@ place_keeps around s shell (Expanding wants pending) h f =
     let t = expand_turn s.machine.files shell.vars shell.functions wants pending in expanded_keeps s (record shell { vars = t.environment }) t.outcome f
 place_keeps around s shell (ReadSubstitution substitution) h f = collect_keeps s shell substitution f
 place_keeps around s shell (WaitSubstitution substitution) h f = f
-place_keeps around s shell (ReadLine reader) h f = line_keeps s shell reader f
-place_keeps around s shell (Awaiting awaited) h f = await_keeps s shell awaited f
-place_keeps around s shell (SendSignal ask) h f = signal_keeps s shell ask f
-place_keeps around s shell (ContinueJob c) h f = continue_keeps s shell c f
+place_keeps around s shell (Asking rest) h f = ask_keeps s shell rest f
 place_keeps around s shell (WaitForJob wait) h f = job_wait_keeps s shell wait f
 place_keeps around s shell (Redirecting p) h f = redirect_keeps s shell p f
 place_keeps around s shell (Forking p) h f = fork_keeps around s shell p f

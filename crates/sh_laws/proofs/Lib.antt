@@ -4,6 +4,7 @@ pub mod Lists
 pub mod Processes
 pub mod TurnRequests
 pub mod Runs
+pub mod Resuming
 pub mod TurnSteps
 pub mod RequestChanges
 pub mod Forking

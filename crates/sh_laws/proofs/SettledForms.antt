@@ -17,7 +17,7 @@ use Rattle.sh_exec_actions.specs.Statuses.{unexcused}
 use Rattle.sh_exec_actions.specs.declared.beginning.Beginning.{Beginning}
 use Rattle.sh_exec_actions.specs.declared.status.CommandStatus.{CommandStatus}
 use Rattle.sh_exec_actions.specs.declared.action.Action.{Action}
-use Rattle.sh_exec_actions.specs.declared.action.Action.TheVariants.{Reading, Prompting, ReadInput, Expanding, ReadSubstitution, WaitSubstitution, ReadLine, Awaiting, SendSignal, ContinueJob, WaitForJob, Redirecting, Forking, Starting, ForkStage, ForkList, AssignLoopVariable, Defining, Waiting, Writing, Trapping, Ending}
+use Rattle.sh_exec_actions.specs.declared.action.Action.TheVariants.{Reading, Prompting, ReadInput, Expanding, ReadSubstitution, WaitSubstitution, Asking, WaitForJob, Redirecting, Forking, Starting, ForkStage, ForkList, AssignLoopVariable, Defining, Waiting, Writing, Trapping, Ending}
 use Rattle.sh_exec_actions.specs.declared.action.Active.{Active}
 use Rattle.sh_exec_actions.specs.declared.action.Active.TheVariants.{Acting, Calling, Evaluating, Next, Done, Leaving}
 use Rattle.sh_exec_actions.specs.declared.action.ForLoop.{ForLoop}
@@ -165,10 +165,8 @@ completion_follows : (status : Completion) → ActiveFollows (at_completion stat
 completion_follows (completion.Done status) = tt
 completion_follows (completion.Left l) = tt
 completion_follows (completion.Runs how text) = tt
-completion_follows (completion.Reads reader) = tt
-completion_follows (completion.Waits awaited) = tt
-completion_follows (completion.Kills ask) = tt
-completion_follows (completion.Continues continuation) = tt
+completion_follows (completion.Asks rest) = tt
+completion_follows (completion.Foreground wait) = tt
 
 said_follows : (messages : List (List ℕ)) (status : Completion) → ActiveFollows (said messages status)
 said_follows [] status = completion_follows status
@@ -191,6 +189,9 @@ follows_holds (Calling body fields) f = absurd f
 follows_holds (Evaluating how text) f = tt
 follows_holds (Done status) f = tt
 follows_holds (Leaving leave) f = tt
+
+pub outcome_holds : (builtin : Builtin) (outcome : Outcome) → ActiveHolds (behind builtin outcome)
+outcome_holds builtin outcome = follows_holds (behind builtin outcome) (behind_follows builtin outcome)
 
 pub said_holds : (messages : List (List ℕ)) (status : Completion) → ActiveHolds (said messages status)
 said_holds messages status = follows_holds (said messages status) (said_follows messages status)
@@ -271,10 +272,7 @@ place_left_settled around s shell (ReadInput beginning) l = input_left_settled s
 place_left_settled around s shell (Expanding wants pending) l = tt
 place_left_settled around s shell (ReadSubstitution substitution) l = tt
 place_left_settled around s shell (WaitSubstitution substitution) l = tt
-place_left_settled around s shell (ReadLine reader) l = tt
-place_left_settled around s shell (Awaiting awaited) l = tt
-place_left_settled around s shell (SendSignal ask) l = tt
-place_left_settled around s shell (ContinueJob c) l = tt
+place_left_settled around s shell (Asking rest) l = tt
 place_left_settled around s shell (WaitForJob wait) l = tt
 place_left_settled around s shell (Redirecting p) l = tt
 place_left_settled around s shell (Forking p) l = tt

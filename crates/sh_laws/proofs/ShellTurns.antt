@@ -5,9 +5,6 @@ use Rattle.sh_builtin_shell.specs.Functions.{Named}
 use Rattle.sh_builtin_outcome.specs.Outcomes.{shell_status}
 use Rattle.sh_builtin_outcome.specs.declared.outcome.Leave.TheVariants as leave
 use Rattle.sh_builtin_environment.specs.TrapMaps.{action_of}
-use Rattle.sh_builtin_regular.specs.Assigning.{line_assigned}
-use Rattle.sh_builtin_regular.specs.Lines.{Progress, bytes_taken}
-use Rattle.sh_builtin_regular.specs.declared.reader.LineReader.{LineReader}
 use Rattle.sh_signal.specs.declared.condition.Condition.TheVariants.{Exit}
 use Rattle.sh_builtin_shell.specs.declared.shell.Shell.{Shell}
 use Rattle.sh_exec_actions.specs.Preparing.{ahead, ahead_by, final_move, performed_by}
@@ -27,7 +24,7 @@ use Rattle.sh_exec_actions.specs.declared.action.Move.{Move}
 use Rattle.sh_exec_actions.specs.declared.action.Move.TheVariants as move
 use Rattle.sh_exec_actions.specs.declared.action.Pending.{Pending}
 use Rattle.sh_exec_actions.specs.declared.action.Action.{Action}
-use Rattle.sh_exec_actions.specs.declared.action.Action.TheVariants.{Reading, Prompting, ReadInput, Expanding, ReadSubstitution, WaitSubstitution, ReadLine, Awaiting, SendSignal, ContinueJob, WaitForJob, Redirecting, Forking, Starting, ForkStage, ForkList, AssignLoopVariable, Defining, Waiting, Writing, Trapping, Ending}
+use Rattle.sh_exec_actions.specs.declared.action.Action.TheVariants.{Reading, Prompting, ReadInput, Expanding, ReadSubstitution, WaitSubstitution, Asking, WaitForJob, Redirecting, Forking, Starting, ForkStage, ForkList, AssignLoopVariable, Defining, Waiting, Writing, Trapping, Ending}
 use Rattle.sh_exec_actions.specs.declared.action.ExpandedCommand.{ExpandedCommand}
 use Rattle.sh_exec_actions.specs.declared.action.Role.TheVariants.{Program}
 use Rattle.sh_exec_actions.specs.declared.action.Stages.{Stages}
@@ -57,11 +54,8 @@ use Rattle.sh_exec_parts.specs.declared.redirection.Redirection.{Redirection}
 use Rattle.sh_exec_parts.specs.declared.simple.Assignment.{Assignment}
 use Rattle.sh_exec.specs.Acting.{after_collection, collect_by, collect_end, collect_from, collect_turn, end_turn, ending_by, expand_turn, keeps, next, read_turn, redirect_by, redirect_from, redirect_one, redirect_turn, round_run, trap_by, trap_turn, with_undo, with_written, without_trap, write_turn}
 use Rattle.sh_exec_actions.specs.declared.action.PipelineWait.{PipelineWait}
-use Rattle.sh_builtin_outcome.specs.declared.outcome.Continuation.{Continuation}
-use Rattle.sh_builtin_outcome.specs.declared.outcome.Continuation.TheVariants as continuation
-use Rattle.sh_builtin_jobs.specs.declared.continuing.ContinuedJob.{ContinuedJob}
-use Rattle.sh_exec_actions.specs.declared.action.JobWait.{JobWait}
-use Rattle.sh_exec_requests.specs.Continuing.{background_place, background_turn, continue_turn, job_ended, job_wait_by, job_wait_turn, with_suspended}
+use Rattle.sh_builtin_outcome.specs.declared.rest.JobWait.{JobWait}
+use Rattle.sh_exec_requests.specs.Continuing.{job_ended, job_wait_by, job_wait_turn, with_suspended}
 use Rattle.sh_exec_requests.specs.Waiting.{answer_by, answer_turn, controlled_by, job_line, terminal_back, told, wait_by, wait_turn, wait_with, with_substitution, is_brought_back, waited}
 use Rattle.sh_exec_machine.specs.Waits.{signal_status}
 use Rattle.sh_jobs.specs.States.{state_of}
@@ -71,27 +65,16 @@ use Rattle.sh_jobs.specs.declared.state.JobState.TheVariants.{Running, Suspended
 use Rattle.sh_jobs.specs.declared.state.JobState.TheVariants as state
 use Rattle.sh_exec_requests.specs.Writing.{after_writing, unwritten, written_by}
 use Rattle.sh_exec_requests.specs.Placed.{Placed, at_place}
-use Rattle.sh_builtin.specs.Running.{control_of}
-use Rattle.sh_builtin_outcome.specs.declared.outcome.Completion.TheVariants as completion
-use Rattle.sh_builtin_jobs.specs.KillRuns.{kill_next}
-use Rattle.sh_builtin_jobs.specs.declared.run.KillAsk.{KillAsk}
-use Rattle.sh_builtin_jobs.specs.declared.run.KillStep.{KillStep}
-use Rattle.sh_builtin_jobs.specs.declared.run.KillStep.TheVariants as kill
-use Rattle.sh_exec_requests.specs.Awaiting.{all_by, await_by, await_ended, await_turn, operand_by, said_so_far, step_place, without_target}
-use Rattle.sh_exec_requests.specs.Signals as signals
-use Rattle.sh_exec_requests.specs.Signals.{after_sending, is_reached, pending_signal, signal_turn, after_drop}
+use Rattle.sh_exec_requests.specs.Signals.{after_drop}
 use Rattle.sh_exec.specs.Traps.{interrupted, interruption, shell_before, trap_before, drops_before}
 use Rattle.sh_kernel.specs.Calls.{after_take_signal}
-use Rattle.sh_signal.specs.Signals.{number_of}
-use Rattle.sh_signal.specs.declared.signal.Signal.{Signal}
-use Rattle.sh_builtin_wait.specs.Waits.{next_wait, processes_of}
-use Rattle.sh_builtin_wait.specs.declared.run.Awaited.{Awaited}
-use Rattle.sh_builtin_wait.specs.declared.run.Awaited.TheVariants as awaited
-use Rattle.sh_builtin_wait.specs.declared.run.OperandWait.{OperandWait}
-use Rattle.sh_builtin_wait.specs.declared.run.WaitStep.{WaitStep}
-use Rattle.sh_builtin_wait.specs.declared.run.WaitStep.TheVariants.{Over, Waits}
 use Rattle.sh_builtin_shell.specs.Shells.{after_suspension, has_job_control, up_to_date, is_interactive}
-use Rattle.sh_exec_requests.specs.LineReading.{fields_given, line_by, line_ended, line_goes_on, line_read_by, most_read, read_line_turn}
+use Rattle.sh_exec_requests.specs.Asking.{ask_by, ask_turn, asked}
+use Rattle.sh_exec_requests.specs.LineReading.{most_read}
+use Rattle.sh_builtin.specs.Resuming.{resumed}
+use Rattle.sh_builtin.specs.declared.answer.Answer.{Answer}
+use Rattle.sh_builtin_outcome.specs.Rests.{asker_of}
+use Rattle.sh_builtin_outcome.specs.declared.rest.BuiltinRest.{BuiltinRest}
 use Rattle.sh_exec.specs.Forks.{background_input, begun_substitution, Turned, fork_failure, fork_turn, inherited, is_foreground, is_more, launch_by, list_by, list_turn, made_place, program_by, stage_by, stage_from, stage_input, stage_one, stage_place, stage_turn, substitute_turn, substitution_by, place_of_none, launched_by}
 use Rattle.sh_exec.specs.Groups.{behind_fork, released}
 use Rattle.sh_exec.specs.Reduction.{act_at, act_behind, act_place, at_root, expanded_by, reduce, shell_turn, drop_at, drop_first, dropped_run, rooted, turn_from}
@@ -114,7 +97,7 @@ use Rattle.sh_laws.specs.Beginnings.{AndOrBegins, CommandBegins, CommandsBegin, 
 use Rattle.sh_laws.proofs.BegunCommands.{and_or_stands, form_stands, list_stands}
 use Rattle.sh_laws.proofs.BegunProcesses.{body_stands, stage_stands}
 use Rattle.sh_laws.proofs.CommandTurns.{ActiveHolds, CommandHolds, ExpandedHolds, MoveHolds, RoundHolds, TurnHolds, ahead_holds, assign_holds, case_holds, choose, give_holds, next_holds, not_done_holds, pattern_holds, redirects_hold, series_hold, words_hold, InputBegins, input_begins}
-use Rattle.sh_laws.proofs.SettledForms.{Holds, Settled, after_settled, at_action_settled, items_settled, reported_holds, said_holds, settled_holds, stands_holds, input_action_holds}
+use Rattle.sh_laws.proofs.SettledForms.{Holds, Settled, after_settled, at_action_settled, items_settled, outcome_holds, reported_holds, settled_holds, stands_holds, input_action_holds}
 use Rattle.sh_exec_requests.specs.Prompting.{behind_job, is_waiting, job_to_tell, prompt_by, prompt_of, prompt_turn, stays, with_job_told, input_action}
 use Rattle.sh_exec_actions.specs.Beginnings.{aliases_of, begun, not_begun}
 use Rattle.sh_aliases.specs.Aliases.{AliasTable}
@@ -202,66 +185,14 @@ collect_holds : (s : KernelState) (shell : Shell) (substitution : Substitution) 
 unfolding collect_turn
 collect_holds s shell substitution h = collect_end_holds s shell substitution substitution.aside h
 
--- ---- the line of read
-given_holds : (status : ℕ) (refused : Option (List ℕ)) → ActiveHolds (fields_given status refused)
-given_holds status None = tt
-given_holds status (Some name) = tt
+-- ---- a built-in asks
+ask_by_holds : (s : KernelState) (shell : Shell) (rest : BuiltinRest) (o : Option Answer) → PlacedHolds (ask_by s shell rest o)
+ask_by_holds s shell rest None = tt
+ask_by_holds s shell rest (Some answer) = outcome_holds (asker_of rest) (resumed s shell rest answer).outcome
 
-line_ended_holds : (s : KernelState) (shell : Shell) (reader : LineReader) (status : ℕ) → PlacedHolds (line_ended s shell reader status)
-unfolding line_ended
-line_ended_holds s shell reader status = given_holds status (line_assigned shell.vars reader).refused
-
-line_by_holds : (s : KernelState) (shell : Shell) (p : Progress) → PlacedHolds (line_by s shell p)
-line_by_holds s shell p =
-    choose PlacedHolds p.over (line_ended s shell p.reader 0) (line_goes_on s shell p.reader) (λ e. line_ended_holds s shell p.reader 0) (λ e. tt)
-
-line_read_by_holds : (s : KernelState) (shell : Shell) (reader : LineReader) (told : ReadOutcome) → PlacedHolds (line_read_by s shell reader told)
-line_read_by_holds s shell reader (taken.Bytes bytes) =
-    choose PlacedHolds (nat_eq (length bytes) 0) (line_ended s shell reader 1) (line_by s shell (bytes_taken reader bytes))
-    (λ e. line_ended_holds s shell reader 1) (λ e. line_by_holds s shell (bytes_taken reader bytes))
-line_read_by_holds s shell reader taken.Wait = tt
-line_read_by_holds s shell reader taken.Failed = line_ended_holds s shell reader 1
-
-line_holds : (s : KernelState) (shell : Shell) (reader : LineReader) → PlacedHolds (read_line_turn s shell reader)
-unfolding read_line_turn
-line_holds s shell reader = let t = take_bytes s shell.pid (Number 0) (most_read s.machine shell.pid) in line_read_by_holds t.after shell reader t.told
-
--- ---- what wait waits for
-step_holds : (step : WaitStep) → ActiveHolds (step_place step)
-step_holds (Over report) = said_holds report.messages (completion.Done report.status)
-step_holds (Waits next) = tt
-
-operand_holds : (s : KernelState) (shell : Shell) (wait : OperandWait) (o : Option ℕ) → PlacedHolds (operand_by s shell wait o)
-operand_holds s shell wait None = tt
-operand_holds s shell wait (Some status) =
-    let left = up_to_date s (without_target shell wait.target) in step_holds (next_wait s.machine.processes left.jobs left.known wait status)
-
-all_holds : (s : KernelState) (shell : Shell) (o : Option ℕ) → PlacedHolds (all_by s shell o)
-all_holds s shell None = tt
-all_holds s shell (Some status) = tt
-
-await_ended_holds : (s : KernelState) (shell : Shell) (a : Awaited) → PlacedHolds (await_ended s shell a)
-await_ended_holds s shell awaited.All = all_holds s shell (wait_status s shell.pid shell.background)
-await_ended_holds s shell (awaited.Operand wait) = operand_holds s shell wait (wait_status s shell.pid (processes_of wait.target))
-
-await_by_holds : (s : KernelState) (shell : Shell) (a : Awaited) (caught : Option Signal) → PlacedHolds (await_by s shell a caught)
-await_by_holds s shell a None = await_ended_holds s shell a
-await_by_holds s shell a (Some signal) = said_holds (said_so_far a) (completion.Done (128 + number_of signal))
-
-await_holds : (s : KernelState) (shell : Shell) (a : Awaited) → PlacedHolds (await_turn s shell a)
-unfolding await_turn
-await_holds s shell a = await_by_holds s shell a (pending_signal s shell)
-
--- ---- a signal is sent
-kill_step_holds : (step : KillStep) → ActiveHolds (signals.step_place step)
-kill_step_holds (kill.Asks ask) = tt
-kill_step_holds (kill.Over report) = said_holds report.messages (completion.Done report.status)
-
-signal_holds : (s : KernelState) (shell : Shell) (a : KillAsk) → PlacedHolds (signal_turn s shell a)
-unfolding signal_turn
-signal_holds s shell a =
-    let after = after_sending s a.send.signal a.target in
-    kill_step_holds (kill_next (control_of after shell) after.machine.processes (up_to_date after shell).jobs a (is_reached s a.target))
+ask_holds : (s : KernelState) (shell : Shell) (rest : BuiltinRest) → PlacedHolds (ask_turn s shell rest)
+unfolding ask_turn
+ask_holds s shell rest = let a = asked s shell rest in ask_by_holds a.after shell rest a.answer
 
 -- ---- waits
 with_status_holds : (wants : ToExpand) (status : ℕ) → WantsHold wants → WantsHold (with_substitution wants status)
@@ -311,20 +242,7 @@ wait_holds : (s : KernelState) (shell : Shell) (wait : PipelineWait) → PlacedH
 unfolding wait_turn
 wait_holds s shell wait = wait_with_holds s shell wait.children wait.job
 
--- ---- jobs go on, and the one in the foreground is waited for
-background_place_holds : (jobs : List ContinuedJob) (messages : List (List ℕ)) (status : ℕ) → ActiveHolds (background_place jobs messages status)
-background_place_holds [] messages status = said_holds messages (completion.Done status)
-background_place_holds (job ∷ jobs) messages status = tt
-
-background_holds : (s : KernelState) (shell : Shell) (jobs : List ContinuedJob) (messages : List (List ℕ)) (status : ℕ) → PlacedHolds (background_turn s shell jobs messages status)
-background_holds s shell [] messages status = background_place_holds [] messages status
-background_holds s shell (job ∷ jobs) messages status = background_place_holds jobs messages status
-
-continue_holds : (s : KernelState) (shell : Shell) (c : Continuation) → PlacedHolds (continue_turn s shell c)
-unfolding continue_turn
-continue_holds s shell (continuation.Background jobs messages status) = background_holds s shell jobs messages status
-continue_holds s shell (continuation.Foreground job) = tt
-
+-- ---- the job in the foreground is waited for
 job_ended_holds : (s : KernelState) (shell : Shell) (wait : JobWait) (o : Option ℕ) → PlacedHolds (job_ended s shell wait o)
 job_ended_holds s shell wait None = tt
 job_ended_holds s shell wait (Some status) = waited_holds s shell wait.processes status
@@ -555,10 +473,7 @@ place_holds around s shell (Expanding wants pending) f h =
     expanded_holds s (record shell { vars = t.environment }) t.outcome f (expand_holds s.machine.files shell.vars shell.functions wants pending f h)
 place_holds around s shell (ReadSubstitution substitution) f h = (collect_holds s shell substitution h, tt)
 place_holds around s shell (WaitSubstitution substitution) f h = (answer_holds s shell.pid substitution h, tt)
-place_holds around s shell (ReadLine reader) f h = (line_holds s shell reader, tt)
-place_holds around s shell (Awaiting awaited) f h = (await_holds s shell awaited, tt)
-place_holds around s shell (SendSignal ask) f h = (signal_holds s shell ask, tt)
-place_holds around s shell (ContinueJob c) f h = (continue_holds s shell c, tt)
+place_holds around s shell (Asking rest) f h = (ask_holds s shell rest, tt)
 place_holds around s shell (WaitForJob wait) f h = (job_wait_holds s shell wait, tt)
 place_holds around s shell (Redirecting p) f h = (redirect_holds s shell p h, tt)
 place_holds around s shell (Forking p) f h = fork_holds around s shell p f h
@@ -622,10 +537,7 @@ dropped_holds (ReadInput b) = (tt, tt)
 dropped_holds (Expanding wants pending) = tt
 dropped_holds (ReadSubstitution substitution) = tt
 dropped_holds (WaitSubstitution substitution) = tt
-dropped_holds (ReadLine reader) = tt
-dropped_holds (Awaiting awaited) = tt
-dropped_holds (SendSignal ask) = tt
-dropped_holds (ContinueJob c) = tt
+dropped_holds (Asking rest) = tt
 dropped_holds (WaitForJob wait) = tt
 dropped_holds (Redirecting p) = tt
 dropped_holds (Forking p) = tt

@@ -11,8 +11,6 @@ use Rattle.sh_builtin.specs.Running.{built_in, jobs_ran}
 use Rattle.sh_builtin_outcome.specs.declared.builtin.Builtin.{Builtin}
 use Rattle.sh_builtin_outcome.specs.declared.builtin.Builtin.TheVariants as builtin
 use Rattle.sh_builtin_shell.specs.declared.shell.Shell.{Shell}
-use Rattle.sh_builtin_regular.specs.Lines.{Progress, bytes_taken}
-use Rattle.sh_builtin_regular.specs.declared.reader.LineReader.{LineReader}
 use Rattle.sh_exec_command.specs.Series.{rest_of_series}
 use Rattle.sh_exec_actions.specs.Statuses.{unexcused}
 use Rattle.sh_exec_actions.specs.declared.beginning.Beginning.{Beginning}
@@ -24,7 +22,7 @@ use Rattle.sh_exec_actions.specs.declared.action.Expanded.TheVariants as expande
 use Rattle.sh_exec_actions.specs.declared.action.Finish.{Finish}
 use Rattle.sh_exec_actions.specs.declared.action.Pending.{Pending}
 use Rattle.sh_exec_actions.specs.declared.action.Action.{Action}
-use Rattle.sh_exec_actions.specs.declared.action.Action.TheVariants.{Reading, Prompting, ReadInput, Expanding, ReadSubstitution, WaitSubstitution, ReadLine, Awaiting, SendSignal, ContinueJob, WaitForJob, Redirecting, Forking, Starting, ForkStage, ForkList, AssignLoopVariable, Defining, Waiting, Writing, Trapping, Ending}
+use Rattle.sh_exec_actions.specs.declared.action.Action.TheVariants.{Reading, Prompting, ReadInput, Expanding, ReadSubstitution, WaitSubstitution, Asking, WaitForJob, Redirecting, Forking, Starting, ForkStage, ForkList, AssignLoopVariable, Defining, Waiting, Writing, Trapping, Ending}
 use Rattle.sh_exec_actions.specs.declared.action.ExpandedCommand.{ExpandedCommand}
 use Rattle.sh_exec_actions.specs.declared.action.Stages.{Stages}
 use Rattle.sh_exec_actions.specs.declared.action.Substitution.{Substitution}
@@ -37,8 +35,7 @@ use Rattle.sh_exec_machine.specs.declared.transfer.ReadOutcome.{ReadOutcome}
 use Rattle.sh_exec_machine.specs.declared.transfer.ReadOutcome.TheVariants as taken
 use Rattle.sh_exec.specs.Acting.{collect_by, collect_end, collect_from, collect_turn, after_collection, end_turn, expand_turn, keeps, next, redirect_from, redirect_one, redirect_turn, trap_by, trap_turn, with_written, write_turn}
 use Rattle.sh_exec_requests.specs.Placed.{Placed, at_place}
-use Rattle.sh_builtin_jobs.specs.declared.run.KillAsk.{KillAsk}
-use Rattle.sh_exec_requests.specs.Signals.{after_sending, after_trap_in, after_trap_set, after_traps, after_traps_in, pending_signal, signal_action, signal_turn, after_drop, after_own_signals, after_release, after_releases, own_action, own_ignored, released_action}
+use Rattle.sh_exec_requests.specs.Signals.{after_sending, after_trap_in, after_trap_set, after_traps, after_traps_in, signal_action, after_drop, after_own_signals, after_release, after_releases, own_action, own_ignored, released_action}
 use Rattle.sh_exec.specs.Traps.{interrupted, interruption, shell_before, trap_before, drops_before}
 use Rattle.sh_jobs.specs.declared.fault.JobFault.{JobFault}
 use Rattle.sh_kernel_signals.specs.Sets.{has}
@@ -46,14 +43,12 @@ use Rattle.sh_kernel_signals.specs.declared.set.SignalSet.{SignalSet}
 use Rattle.sh_kernel_signals.specs.declared.target.SignalTarget.{SignalTarget}
 use Rattle.sh_signal.specs.Signals.{signals}
 use Rattle.sh_signal.specs.declared.signal.Signal.{Signal}
-use Rattle.sh_exec_requests.specs.Awaiting.{all_by, await_by, await_ended, await_turn, operand_by, without_target}
-use Rattle.sh_builtin_wait.specs.Waits.{processes_of}
-use Rattle.sh_builtin_wait.specs.declared.run.Awaited.{Awaited}
-use Rattle.sh_builtin_wait.specs.declared.run.Awaited.TheVariants as awaited
-use Rattle.sh_builtin_wait.specs.declared.run.OperandWait.{OperandWait}
-use Rattle.sh_builtin_wait.specs.declared.target.WaitTarget.{WaitTarget}
-use Rattle.sh_builtin_wait.specs.declared.target.WaitTarget.TheVariants as target
-use Rattle.sh_exec_requests.specs.LineReading.{line_by, line_ended, line_goes_on, line_read_by, most_read, read_line_turn}
+use Rattle.sh_exec_requests.specs.Asking.{after_continuation, after_continue, after_first, ask_by, ask_turn, asked}
+use Rattle.sh_exec_requests.specs.LineReading.{most_read}
+use Rattle.sh_builtin.specs.declared.answer.Answer.{Answer}
+use Rattle.sh_builtin_outcome.specs.declared.rest.BuiltinRest.{BuiltinRest}
+use Rattle.sh_builtin_outcome.specs.declared.rest.BuiltinRest.TheVariants.{Reads, Waits, Kills, Continues}
+use Rattle.sh_laws.proofs.Resuming.{resumed_same}
 use Rattle.sh_exec.specs.Forks.{Turned, background_input, begun_substitution, fork_turn, inherited, is_foreground, is_more, launch_by, list_by, list_turn, made_shell, program_by, stage_by, stage_from, stage_input, stage_one, stage_shell, stage_turn, substitute_turn, substitution_by}
 use Rattle.sh_exec.specs.Groups.{behind_fork, behind_fork_by, released}
 use Rattle.sh_exec_requests.specs.Reporting.{behind}
@@ -84,11 +79,11 @@ use Rattle.sh_builtin_jobs.specs.Listing.{jobs_of, job_lines}
 use Rattle.sh_builtin_jobs.specs.declared.listing.JobsCommand.{JobsCommand}
 use Rattle.sh_builtin_shell.specs.Shells.{has_job_control, own_group, up_to_date, is_interactive}
 use Rattle.sh_exec_actions.specs.declared.action.PipelineWait.{PipelineWait}
-use Rattle.sh_builtin_outcome.specs.declared.outcome.Continuation.{Continuation}
-use Rattle.sh_builtin_outcome.specs.declared.outcome.Continuation.TheVariants as continuation
+use Rattle.sh_builtin_outcome.specs.declared.rest.Continuation.{Continuation}
+use Rattle.sh_builtin_outcome.specs.declared.rest.Continuation.TheVariants as continuation
 use Rattle.sh_builtin_jobs.specs.declared.continuing.ContinuedJob.{ContinuedJob}
-use Rattle.sh_exec_actions.specs.declared.action.JobWait.{JobWait}
-use Rattle.sh_exec_requests.specs.Continuing.{background_turn, continue_turn, job_ended, job_wait_by, job_wait_turn}
+use Rattle.sh_builtin_outcome.specs.declared.rest.JobWait.{JobWait}
+use Rattle.sh_exec_requests.specs.Continuing.{job_ended, job_wait_by, job_wait_turn}
 use Rattle.sh_kernel_signals.specs.declared.target.SignalTarget.TheVariants.{Group}
 use Rattle.sh_signal.specs.declared.signal.Signal.TheVariants as signal
 use Rattle.sh_exec_requests.specs.Waiting.{controlled_by, terminal_back, wait_turn, wait_with}
@@ -177,10 +172,7 @@ before_number shell (ReadInput b) = refl
 before_number shell (Expanding wants pending) = refl
 before_number shell (ReadSubstitution substitution) = refl
 before_number shell (WaitSubstitution substitution) = refl
-before_number shell (ReadLine reader) = refl
-before_number shell (Awaiting awaited) = refl
-before_number shell (SendSignal ask) = refl
-before_number shell (ContinueJob c) = refl
+before_number shell (Asking rest) = refl
 before_number shell (WaitForJob wait) = refl
 before_number shell (Redirecting p) = refl
 before_number shell (Forking p) = refl
@@ -265,10 +257,7 @@ module _ (directory : List ℕ) (pid : ℕ) (P : KernelState → Type 0) (kept :
   place_left_keeps around s shell (Expanding wants pending) leave e p = (e, p)
   place_left_keeps around s shell (ReadSubstitution substitution) leave e p = (e, p)
   place_left_keeps around s shell (WaitSubstitution substitution) leave e p = (e, p)
-  place_left_keeps around s shell (ReadLine reader) leave e p = (e, p)
-  place_left_keeps around s shell (Awaiting awaited) leave e p = (e, p)
-  place_left_keeps around s shell (SendSignal ask) leave e p = (e, p)
-  place_left_keeps around s shell (ContinueJob c) leave e p = (e, p)
+  place_left_keeps around s shell (Asking rest) leave e p = (e, p)
   place_left_keeps around s shell (WaitForJob wait) leave e p = (e, p)
   place_left_keeps around s shell (Redirecting c) leave e p = (e, p)
   place_left_keeps around s shell (Forking c) leave e p = (e, p)
@@ -381,34 +370,6 @@ module _ (directory : List ℕ) (pid : ℕ) (P : KernelState → Type 0) (kept :
   unfolding collect_turn
   collect_keeps s shell substitution e p = collect_end_keeps s shell substitution substitution.aside e p
 
-  -- ---- the line of read
-  line_ended_keeps : (s : KernelState) (shell : Shell) (reader : LineReader) (status : ℕ) → shell.pid ≡ pid → P s → KeepsPlaced (line_ended s shell reader status)
-  unfolding line_ended
-  line_ended_keeps s shell reader status e p = (e, p)
-
-  line_by_keeps : (s : KernelState) (shell : Shell) (l : Progress) → shell.pid ≡ pid → P s → KeepsPlaced (line_by s shell l)
-  line_by_keeps s shell l e p = at l.over
-    where
-      at : (b : Bool) → KeepsPlaced (if b then line_ended s shell l.reader 0 else line_goes_on s shell l.reader)
-      at true = line_ended_keeps s shell l.reader 0 e p
-      at false = (e, p)
-
-  line_read_by_keeps : (s : KernelState) (shell : Shell) (reader : LineReader) (told : ReadOutcome) → shell.pid ≡ pid → P s → KeepsPlaced (line_read_by s shell reader told)
-  line_read_by_keeps s shell reader (taken.Bytes bytes) e p = at (nat_eq (length bytes) 0)
-    where
-      at : (b : Bool) → KeepsPlaced (if b then line_ended s shell reader 1 else line_by s shell (bytes_taken reader bytes))
-      at true = line_ended_keeps s shell reader 1 e p
-      at false = line_by_keeps s shell (bytes_taken reader bytes) e p
-  line_read_by_keeps s shell reader taken.Wait e p = (e, p)
-  line_read_by_keeps s shell reader taken.Failed e p = line_ended_keeps s shell reader 1 e p
-
-  line_keeps : (s : KernelState) (shell : Shell) (reader : LineReader) → shell.pid ≡ pid → P s → KeepsPlaced (read_line_turn s shell reader)
-  unfolding read_line_turn
-  line_keeps s shell reader e p =
-      let count = most_read s.machine shell.pid in
-      let t = take_bytes s shell.pid (Number 0) count in
-      line_read_by_keeps t.after shell reader t.told e (take_keeps directory shell.pid P (own shell e) s (Number 0) count p)
-
   -- ---- the commands of an interactive shell
   prompted_keeps : (s : KernelState) (shell : Shell) (bytes : List ℕ) → shell.pid ≡ pid → P s → P (give_bytes s shell.pid 2 bytes).after
   prompted_keeps s shell bytes e p = give_keeps directory shell.pid P (own shell e) s 2 bytes p
@@ -448,31 +409,6 @@ module _ (directory : List ℕ) (pid : ℕ) (P : KernelState → Type 0) (kept :
       let t = take_bytes s shell.pid (Number 0) count in
       input_taken_keeps t.after shell b t.told e (take_keeps directory shell.pid P (own shell e) s (Number 0) count p)
 
-  -- ---- what wait waits for
-  target_number : (shell : Shell) (to : WaitTarget) → (without_target shell to).pid ≡ shell.pid
-  target_number shell (target.Process pid) = refl
-  target_number shell (target.Job number pids) = refl
-
-  operand_keeps : (s : KernelState) (shell : Shell) (wait : OperandWait) (o : Option ℕ) → shell.pid ≡ pid → P s → KeepsPlaced (operand_by s shell wait o)
-  operand_keeps s shell wait None e p = (e, p)
-  operand_keeps s shell wait (Some status) e p = (target_number shell wait.target ∙ e, p)
-
-  all_keeps : (s : KernelState) (shell : Shell) (o : Option ℕ) → shell.pid ≡ pid → P s → KeepsPlaced (all_by s shell o)
-  all_keeps s shell None e p = (e, p)
-  all_keeps s shell (Some status) e p = (e, p)
-
-  await_ended_keeps : (s : KernelState) (shell : Shell) (a : Awaited) → shell.pid ≡ pid → P s → KeepsPlaced (await_ended s shell a)
-  await_ended_keeps s shell awaited.All e p = all_keeps s shell (wait_status s shell.pid shell.background) e p
-  await_ended_keeps s shell (awaited.Operand wait) e p = operand_keeps s shell wait (wait_status s shell.pid (processes_of wait.target)) e p
-
-  await_by_keeps : (s : KernelState) (shell : Shell) (a : Awaited) (caught : Option Signal) → shell.pid ≡ pid → P s → KeepsPlaced (await_by s shell a caught)
-  await_by_keeps s shell a None e p = await_ended_keeps s shell a e p
-  await_by_keeps s shell a (Some signal) e p = (e, p)
-
-  await_keeps : (s : KernelState) (shell : Shell) (a : Awaited) → shell.pid ≡ pid → P s → KeepsPlaced (await_turn s shell a)
-  unfolding await_turn
-  await_keeps s shell a e p = await_by_keeps s shell a (pending_signal s shell) e p
-
   -- ---- a wait for a pipeline
   terminal_keeps : (s : KernelState) (shell : Shell) → shell.pid ≡ pid → P s → P (terminal_back s shell.pid)
   terminal_keeps s shell e p = own shell e s (SetForeground (own_group s shell.pid)) tt p
@@ -496,24 +432,34 @@ module _ (directory : List ℕ) (pid : ℕ) (P : KernelState → Type 0) (kept :
   sending_keeps s shell (Some signal) (Err fault) e p = p
   sending_keeps s shell (Some signal) (Ok target) e p = own shell e s (Kill target signal) tt p
 
-  signal_keeps : (s : KernelState) (shell : Shell) (a : KillAsk) → shell.pid ≡ pid → P s → KeepsPlaced (signal_turn s shell a)
-  unfolding signal_turn
-  signal_keeps s shell a e p = (e, sending_keeps s shell a.send.signal a.target e p)
-
-  -- ---- jobs go on, and the one in the foreground is waited for
-  continuing_keeps : (s : KernelState) (shell : Shell) (group : ℕ) → shell.pid ≡ pid → P s → P (after_sending s (Some signal.Continue) (Ok (Group group)))
+  -- ---- a built-in asks
+  continuing_keeps : (s : KernelState) (shell : Shell) (group : ℕ) → shell.pid ≡ pid → P s → P (after_continue s group)
   continuing_keeps s shell group e p = sending_keeps s shell (Some signal.Continue) (Ok (Group group)) e p
 
-  in_background_keeps : (s : KernelState) (shell : Shell) (jobs : List ContinuedJob) (messages : List (List ℕ)) (status : ℕ) → shell.pid ≡ pid → P s → KeepsPlaced (background_turn s shell jobs messages status)
-  in_background_keeps s shell [] messages status e p = (e, p)
-  in_background_keeps s shell (job ∷ jobs) messages status e p = (e, continuing_keeps s shell job.group e p)
+  first_keeps : (s : KernelState) (shell : Shell) (jobs : List ContinuedJob) → shell.pid ≡ pid → P s → P (after_first s jobs)
+  first_keeps s shell [] e p = p
+  first_keeps s shell (job ∷ jobs) e p = continuing_keeps s shell job.group e p
 
-  continue_keeps : (s : KernelState) (shell : Shell) (c : Continuation) → shell.pid ≡ pid → P s → KeepsPlaced (continue_turn s shell c)
-  unfolding continue_turn
-  continue_keeps s shell (continuation.Background jobs messages status) e p = in_background_keeps s shell jobs messages status e p
-  continue_keeps s shell (continuation.Foreground job) e p =
-      (e, continuing_keeps (after_request s shell.pid (SetForeground job.group)) shell job.group e (own shell e s (SetForeground job.group) tt p))
+  continuation_keeps : (s : KernelState) (shell : Shell) (c : Continuation) → shell.pid ≡ pid → P s → P (after_continuation s c)
+  continuation_keeps s shell (continuation.Background jobs messages status) e p = first_keeps s shell jobs e p
+  continuation_keeps s shell (continuation.Foreground job) e p =
+      continuing_keeps (after_request s shell.pid (SetForeground job.group)) shell job.group e (own shell e s (SetForeground job.group) tt p)
 
+  asked_keeps : (s : KernelState) (shell : Shell) (rest : BuiltinRest) → shell.pid ≡ pid → P s → P (asked s shell rest).after
+  asked_keeps s shell (Reads reader) e p = take_keeps directory shell.pid P (own shell e) s (Number 0) (most_read s.machine shell.pid) p
+  asked_keeps s shell (Waits awaited) e p = p
+  asked_keeps s shell (Kills kill) e p = sending_keeps s shell kill.send.signal kill.target e p
+  asked_keeps s shell (Continues c) e p = continuation_keeps s shell c e p
+
+  ask_by_keeps : (s : KernelState) (shell : Shell) (rest : BuiltinRest) (o : Option Answer) → shell.pid ≡ pid → P s → KeepsPlaced (ask_by s shell rest o)
+  ask_by_keeps s shell rest None e p = (e, p)
+  ask_by_keeps s shell rest (Some answer) e p = ((resumed_same s shell rest answer).pid ∙ e, p)
+
+  ask_keeps : (s : KernelState) (shell : Shell) (rest : BuiltinRest) → shell.pid ≡ pid → P s → KeepsPlaced (ask_turn s shell rest)
+  unfolding ask_turn
+  ask_keeps s shell rest e p = let a = asked s shell rest in ask_by_keeps a.after shell rest a.answer e (asked_keeps s shell rest e p)
+
+  -- ---- the job in the foreground is waited for
   job_ended_keeps : (s : KernelState) (shell : Shell) (wait : JobWait) (o : Option ℕ) → shell.pid ≡ pid → P s → KeepsPlaced (job_ended s shell wait o)
   job_ended_keeps s shell wait None e p = (e, p)
   job_ended_keeps s shell wait (Some status) e p = (e, p)
@@ -678,10 +624,7 @@ module _ (directory : List ℕ) (pid : ℕ) (P : Option ℕ → KernelState → 
       let t = expand_turn s.machine.files shell.vars shell.functions wants pending in expanded_keeps s (record shell { vars = t.environment }) t.outcome e p
   place_keeps around s shell (ReadSubstitution substitution) e d p = collect_keeps directory pid (P None) (kept None) s shell substitution e p
   place_keeps around s shell (WaitSubstitution substitution) e d p = (e, p)
-  place_keeps around s shell (ReadLine reader) e d p = line_keeps directory pid (P None) (kept None) s shell reader e p
-  place_keeps around s shell (Awaiting awaited) e d p = await_keeps directory pid (P None) (kept None) s shell awaited e p
-  place_keeps around s shell (SendSignal ask) e d p = signal_keeps directory pid (P None) (kept None) s shell ask e p
-  place_keeps around s shell (ContinueJob c) e d p = continue_keeps directory pid (P None) (kept None) s shell c e p
+  place_keeps around s shell (Asking rest) e d p = ask_keeps directory pid (P None) (kept None) s shell rest e p
   place_keeps around s shell (WaitForJob wait) e d p = job_wait_keeps directory pid (P None) (kept None) s shell wait e p
   place_keeps around s shell (Redirecting prepared) e d p = redirect_turn_keeps directory pid (P None) (kept None) s shell prepared e d p
   place_keeps around s shell (Forking prepared) e d p = fork_turn_keeps around s shell prepared e p

@@ -12,7 +12,7 @@ use Rattle.sh_exec_command.specs.declared.found.Found.TheVariants as found
 use Rattle.sh_exec_actions.specs.declared.action.Active.{Active}
 use Rattle.sh_exec_actions.specs.declared.action.Active.TheVariants.{Acting, Calling, Evaluating, Next, Done, Leaving}
 use Rattle.sh_exec_actions.specs.declared.action.Action.{Action}
-use Rattle.sh_exec_actions.specs.declared.action.Action.TheVariants.{Reading, Prompting, ReadInput, Expanding, ReadSubstitution, WaitSubstitution, ReadLine, Awaiting, SendSignal, ContinueJob, WaitForJob, Redirecting, Forking, Starting, ForkStage, ForkList, AssignLoopVariable, Defining, Waiting, Writing, Trapping, Ending}
+use Rattle.sh_exec_actions.specs.declared.action.Action.TheVariants.{Reading, Prompting, ReadInput, Expanding, ReadSubstitution, WaitSubstitution, Asking, WaitForJob, Redirecting, Forking, Starting, ForkStage, ForkList, AssignLoopVariable, Defining, Waiting, Writing, Trapping, Ending}
 use Rattle.sh_exec_actions.specs.declared.action.Role.{Role}
 use Rattle.sh_exec_actions.specs.declared.action.Role.TheVariants.{NoCommandName, Builtin, Function, Program, Exec, Compound, Subshell}
 use Rattle.sh_exec_actions.specs.declared.action.CaseBranch.{CaseBranch}
@@ -85,10 +85,7 @@ PlaceHolds (ReadInput beginning) = Unit {0}
 PlaceHolds (Expanding wants pending) = WantsHold wants
 PlaceHolds (ReadSubstitution substitution) = WantsHold substitution.wants
 PlaceHolds (WaitSubstitution substitution) = WantsHold substitution.wants
-PlaceHolds (ReadLine reader) = Unit {0}
-PlaceHolds (Awaiting awaited) = Unit {0}
-PlaceHolds (SendSignal ask) = Unit {0}
-PlaceHolds (ContinueJob continuation) = Unit {0}
+PlaceHolds (Asking rest) = Unit {0}
 PlaceHolds (WaitForJob wait) = Unit {0}
 PlaceHolds (Redirecting p) = RoleHolds p.role × AssignmentsHold p.assignments
 PlaceHolds (Forking p) = (p.role ≡ Program) × AssignmentsHold p.assignments
