@@ -1,6 +1,7 @@
 -- Built-ins as they are run: an error of a special built-in that `command` runs doesn't end the shell (XCU command, 2.8.1).
 use Rattle.std.specs.Prelude.{ℕ, List, Bool, true, false}
-use Rattle.sh_builtin.specs.Running.{BuiltIn, built_in, with_outcome}
+use Rattle.sh_builtin.specs.Running.{built_in}
+use Rattle.sh_builtin_asking.specs.BuiltIns.{BuiltIn, with_outcome}
 use Rattle.sh_builtin_outcome.specs.declared.invocation.Invocation.{Invocation}
 use Rattle.sh_builtin_outcome.specs.declared.outcome.Completion.{Completion}
 use Rattle.sh_builtin_outcome.specs.declared.outcome.Completion.TheVariants.{Asks, Done, Foreground, Left, Runs}

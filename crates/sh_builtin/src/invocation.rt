@@ -1,7 +1,7 @@
 //! Built-ins as they are run.
 ghost use Rattle.std.specs.Prelude.{◌≡◌, IfOk};
 ghost use Rattle.sh_builtin.specs.Invocations.{invoked, outcome_as, regular_completion, regular_leave};
-ghost use Rattle.sh_builtin.specs.Running.{with_outcome};
+ghost use Rattle.sh_builtin_asking.specs.BuiltIns.{with_outcome};
 ghost use Rattle.sh_kernel.specs.State.{KernelState, StandsAt};
 
 use crate::running::run;

@@ -1,5 +1,6 @@
 //! The built-in jobs (XCU jobs).
-ghost use Rattle.sh_builtin.specs.Running.{jobs_ran, listed, with_outcome};
+ghost use Rattle.sh_builtin.specs.Running.{jobs_ran, listed};
+ghost use Rattle.sh_builtin_asking.specs.BuiltIns.{with_outcome};
 ghost use Rattle.sh_builtin_jobs.specs.Listing.{jobs_listed, jobs_of};
 ghost use Rattle.sh_builtin_shell.specs.Shells.{up_to_date};
 ghost use Rattle.sh_kernel.specs.State.{KernelState, StandsAt};

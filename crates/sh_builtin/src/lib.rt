@@ -2,21 +2,14 @@
 #![tactic(auto)]
 
 mod aliases;
-mod answer;
 mod command;
-mod continuing;
 mod dot;
 mod invocation;
 mod jobs;
-mod killing;
 mod leaving;
-mod reading;
-mod resuming;
 mod running;
 mod testing;
-mod waiting;
 
-pub use answer::Answer;
 pub use invocation::invoke;
-pub use resuming::resume;
 pub use running::run;
+pub use sh_builtin_asking::{Answer, resume};

@@ -1,21 +1,19 @@
 //! Built-in utilities as they act.
 ghost use Rattle.std.specs.Prelude.{◌≡◌, ◌++◌, IfOk};
 ghost use Rattle.sh_builtin_outcome.specs.Outcomes.{outcome_of, with_signals};
-ghost use Rattle.sh_builtin.specs.Running.{built_in, echo_outcome, eval_outcome, joined, option_set, switched_signals, with_outcome, without_functions};
+ghost use Rattle.sh_builtin.specs.Running.{built_in, echo_outcome, eval_outcome, joined, option_set, switched_signals, without_functions};
+ghost use Rattle.sh_builtin_asking.specs.BuiltIns.{with_outcome};
 ghost use Rattle.sh_kernel.specs.State.{KernelState, StandsAt};
 
 use crate::aliases::{alias, unalias};
 use crate::command::command;
-use crate::continuing::{bg, fg};
 use crate::dot::dot;
 use crate::jobs::jobs;
-use crate::killing::kill;
 use crate::leaving::{break_with, continue_with, exit_with, operands_of, return_with};
-use crate::reading::read;
 use crate::testing::{bracket, test};
-use crate::waiting::wait;
 use sh_base::NoMemory;
 use sh_base::sequence::{Sequence, Text};
+use sh_builtin_asking::{bg, fg, kill, read, wait};
 use sh_builtin_environment::{
     Attribute, TrapOutcome, cd, functions_to_unset, mark, pwd, set, shift, trap, unset,
 };

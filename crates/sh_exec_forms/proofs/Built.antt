@@ -1,7 +1,7 @@
 -- What a built-in does to the kernel's state, and that nothing else at a place does anything to it.
 use Rattle.std.proofs.Common.{◌≡◌, ℕ, List, refl, ap, subst, ◌∙◌, drop}
+use Rattle.sh_exec_requests.specs.BuiltIns.{with_outcome}
 use Rattle.sh_exec_requests.specs.Invocations.{invoked}
-use Rattle.sh_exec_requests.specs.Running.{with_outcome}
 use Rattle.sh_exec_actions.specs.Invocation.{Invocation}
 use Rattle.sh_exec_actions.specs.Outcome.{Outcome}
 use Rattle.sh_builtin_shell.specs.declared.shell.Shell.{Shell}

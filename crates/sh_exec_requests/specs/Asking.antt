@@ -1,9 +1,9 @@
 -- What a shell asks of the kernel for a built-in (XCU read, wait, kill, bg, fg), and what follows the answer.
 use Rattle.std.specs.Prelude.{ℕ, List, [], ◌∷◌, Option, Some, None, option_map}
+use Rattle.sh_builtin.specs.Answer.{Answer}
+use Rattle.sh_builtin.specs.Answer.TheVariants.{Bytes, Ended, Caught, Sent, Continued}
+use Rattle.sh_builtin.specs.BuiltIns.{BuiltIn}
 use Rattle.sh_builtin.specs.Resuming.{resumed}
-use Rattle.sh_builtin.specs.Running.{BuiltIn}
-use Rattle.sh_builtin.specs.declared.answer.Answer.{Answer}
-use Rattle.sh_builtin.specs.declared.answer.Answer.TheVariants.{Bytes, Ended, Caught, Sent, Continued}
 use Rattle.sh_builtin_outcome.specs.Rests.{asker_of}
 use Rattle.sh_builtin_outcome.specs.declared.builtin.Builtin.{Builtin}
 use Rattle.sh_builtin_outcome.specs.declared.rest.BuiltinRest.{BuiltinRest}

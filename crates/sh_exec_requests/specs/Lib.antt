@@ -7,5 +7,6 @@ pub mod Reporting
 pub mod Signals
 pub mod Waiting
 pub mod Writing
+pub use Rattle.sh_builtin.specs.BuiltIns
 pub use Rattle.sh_builtin.specs.Invocations
 pub use Rattle.sh_builtin.specs.Running

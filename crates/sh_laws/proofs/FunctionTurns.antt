@@ -62,7 +62,7 @@ use Rattle.sh_exec.specs.Traps.{interrupted, interruption, shell_before, trap_be
 use Rattle.sh_kernel.specs.Calls.{after_take_signal}
 use Rattle.sh_exec_requests.specs.Asking.{ask_by, ask_turn, asked}
 use Rattle.sh_exec_requests.specs.LineReading.{most_read}
-use Rattle.sh_builtin.specs.declared.answer.Answer.{Answer}
+use Rattle.sh_builtin.specs.Answer.{Answer}
 use Rattle.sh_builtin_outcome.specs.declared.rest.BuiltinRest.{BuiltinRest}
 use Rattle.sh_laws.proofs.Resuming.{resumed_same}
 use Rattle.sh_exec.specs.Forks.{background_input, begun_substitution, fork_turn, is_foreground, is_more, launch_by, list_by, list_turn, made_shell, program_by, stage_by, stage_from, stage_input, stage_one, stage_shell, stage_turn, substitute_turn, substitution_by}

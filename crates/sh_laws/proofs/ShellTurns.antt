@@ -72,7 +72,7 @@ use Rattle.sh_builtin_shell.specs.Shells.{after_suspension, has_job_control, up_
 use Rattle.sh_exec_requests.specs.Asking.{ask_by, ask_turn, asked}
 use Rattle.sh_exec_requests.specs.LineReading.{most_read}
 use Rattle.sh_builtin.specs.Resuming.{resumed}
-use Rattle.sh_builtin.specs.declared.answer.Answer.{Answer}
+use Rattle.sh_builtin.specs.Answer.{Answer}
 use Rattle.sh_builtin_outcome.specs.Rests.{asker_of}
 use Rattle.sh_builtin_outcome.specs.declared.rest.BuiltinRest.{BuiltinRest}
 use Rattle.sh_exec.specs.Forks.{background_input, begun_substitution, Turned, fork_failure, fork_turn, inherited, is_foreground, is_more, launch_by, list_by, list_turn, made_place, program_by, stage_by, stage_from, stage_input, stage_one, stage_place, stage_turn, substitute_turn, substitution_by, place_of_none, launched_by}

@@ -45,7 +45,7 @@ use Rattle.sh_signal.specs.Signals.{signals}
 use Rattle.sh_signal.specs.declared.signal.Signal.{Signal}
 use Rattle.sh_exec_requests.specs.Asking.{after_continuation, after_continue, after_first, ask_by, ask_turn, asked}
 use Rattle.sh_exec_requests.specs.LineReading.{most_read}
-use Rattle.sh_builtin.specs.declared.answer.Answer.{Answer}
+use Rattle.sh_builtin.specs.Answer.{Answer}
 use Rattle.sh_builtin_outcome.specs.declared.rest.BuiltinRest.{BuiltinRest}
 use Rattle.sh_builtin_outcome.specs.declared.rest.BuiltinRest.TheVariants.{Reads, Waits, Kills, Continues}
 use Rattle.sh_laws.proofs.Resuming.{resumed_same}

@@ -2,9 +2,9 @@
 -- again.
 use Rattle.std.specs.Prelude.{ℕ, ◌+◌, List, [], ◌∷◌, Bool, length, nat_eq, Option, Some, None, if◌then◌else◌}
 use Rattle.std.specs.Option.{option_map_or}
-use Rattle.sh_builtin.specs.Running.{BuiltIn, control_of, kill_step, wait_step, with_outcome, with_vars}
-use Rattle.sh_builtin.specs.declared.answer.Answer.{Answer}
-use Rattle.sh_builtin.specs.declared.answer.Answer.TheVariants.{Bytes, Ended, Caught, Sent, Continued}
+use Rattle.sh_builtin_asking.specs.BuiltIns.{BuiltIn, control_of, kill_step, wait_step, with_outcome, with_vars}
+use Rattle.sh_builtin_asking.specs.declared.answer.Answer.{Answer}
+use Rattle.sh_builtin_asking.specs.declared.answer.Answer.TheVariants.{Bytes, Ended, Caught, Sent, Continued}
 use Rattle.sh_builtin_jobs.specs.Continuing.{after_continuing}
 use Rattle.sh_builtin_jobs.specs.KillRuns.{kill_next}
 use Rattle.sh_builtin_jobs.specs.declared.continuing.ContinuedJob.{ContinuedJob}

@@ -1,7 +1,7 @@
 //! The built-ins bg and fg (XCU bg, fg).
 ghost use Rattle.std.specs.Prelude.{◌≡◌, ◌∷◌, [], IfOk, MatchOption, OnOk};
-ghost use Rattle.sh_builtin.specs.Resuming.{background_continued, background_left, continue_resumed, foreground_continued, job_continued, processes_of, with_continued};
-ghost use Rattle.sh_builtin.specs.Running.{background_by, background_outcome, bg_ran, fg_ran, foreground_outcome, with_outcome};
+ghost use Rattle.sh_builtin_asking.specs.BuiltIns.{background_by, background_outcome, bg_ran, fg_ran, foreground_outcome, with_outcome};
+ghost use Rattle.sh_builtin_asking.specs.Resuming.{background_continued, background_left, continue_resumed, foreground_continued, job_continued, processes_of, with_continued};
 ghost use Rattle.sh_builtin_jobs.specs.Continuing.{bg_of, fg_of};
 ghost use Rattle.sh_builtin_outcome.specs.Outcomes.{continuing};
 ghost use Rattle.sh_builtin_shell.specs.Shells.{has_job_control, in_background, in_foreground, up_to_date};
@@ -90,8 +90,12 @@ fn bg_with(
     background_outcome(alloc, answer)
 }
 
-/// bg with its arguments, in a shell whose jobs may have changed.
-pub(crate) fn bg(
+/// How `bg` begins, with its arguments, in the shell's process of a kernel (XCU bg): `bg [ID..]`. It writes the lines of the jobs that these name,
+/// without an operand that of the current one, and asks that they go on, one after the other (`BuiltinRest::Continues`); behind the answer `resume`
+/// does the rest. It is over at once, with its messages and the status 2, where they name no job, and with one message and the status 2 where its
+/// arguments are wrong, else where job control isn't on. The shell's jobs are brought up to date, and nothing else of it changes. The only error
+/// is want of memory; what the shell is then is left open.
+pub fn bg(
     alloc: Global,
     kernel: &Kernel,
     shell: &mut Shell,
@@ -125,8 +129,11 @@ fn fg_with(
     foreground_outcome(alloc, answer)
 }
 
-/// fg with its arguments, in a shell whose jobs may have changed.
-pub(crate) fn fg(
+/// How `fg` begins, with its arguments, in the shell's process of a kernel (XCU fg): `fg [ID]`. It writes the text of the job that this names,
+/// without an operand that of the current one, and asks that it goes on (`BuiltinRest::Continues`); behind the answer `resume` does the rest. It is
+/// over at once, with a message and the status 2, where its arguments are wrong, else where job control isn't on, else where no job is named. The
+/// shell's jobs are brought up to date, and nothing else of it changes. The only error is want of memory; what the shell is then is left open.
+pub fn fg(
     alloc: Global,
     kernel: &Kernel,
     shell: &mut Shell,

@@ -1,7 +1,7 @@
 //! The built-in kill (XCU kill).
 ghost use Rattle.std.specs.Prelude.{◌≡◌, IfOk};
-ghost use Rattle.sh_builtin.specs.Resuming.{kill_resumed, next_signal};
-ghost use Rattle.sh_builtin.specs.Running.{control_of, kill_does, kill_outcome, kill_ran, kill_step, with_outcome};
+ghost use Rattle.sh_builtin_asking.specs.BuiltIns.{control_of, kill_does, kill_outcome, kill_ran, kill_step, with_outcome};
+ghost use Rattle.sh_builtin_asking.specs.Resuming.{kill_resumed, next_signal};
 ghost use Rattle.sh_builtin_jobs.specs.KillWords.{kill_of};
 ghost use Rattle.sh_builtin_shell.specs.Shells.{up_to_date};
 ghost use Rattle.sh_kernel.specs.State.{KernelState, StandsAt};
@@ -89,8 +89,11 @@ fn kill_with(
     }
 }
 
-/// kill with its arguments, in a shell whose jobs may have changed.
-pub(crate) fn kill(
+/// How `kill` begins, with its arguments, in the shell's process of a kernel (XCU kill). It asks that a signal is sent for its first operand
+/// (`BuiltinRest::Kills`); behind the answer `resume` does the rest. It is over at once where it lists names of signals, and with a message and
+/// the status 2 where its arguments are wrong: all of them are looked at before the first signal. The shell's jobs are brought up to date, and
+/// nothing else of it changes. The only error is want of memory; what the shell is then is left open.
+pub fn kill(
     alloc: Global,
     kernel: &Kernel,
     shell: &mut Shell,

@@ -1,7 +1,7 @@
 //! The built-in wait (XCU wait).
 ghost use Rattle.std.specs.Prelude.{◌≡◌, IfOk};
-ghost use Rattle.sh_builtin.specs.Resuming.{next_operand, operand_ended, said_so_far, wait_caught, wait_ended, wait_resumed, without_target};
-ghost use Rattle.sh_builtin.specs.Running.{wait_outcome, wait_ran, wait_start, wait_step, with_outcome};
+ghost use Rattle.sh_builtin_asking.specs.BuiltIns.{wait_outcome, wait_ran, wait_start, wait_step, with_outcome};
+ghost use Rattle.sh_builtin_asking.specs.Resuming.{next_operand, operand_ended, said_so_far, wait_caught, wait_ended, wait_resumed, without_target};
 ghost use Rattle.sh_builtin_shell.specs.Shells.{up_to_date};
 ghost use Rattle.sh_builtin_outcome.specs.Waits.{wait_of};
 ghost use Rattle.sh_kernel.specs.State.{KernelState, StandsAt};
@@ -61,8 +61,12 @@ fn wait_with(
     }
 }
 
-/// wait with its arguments, in a shell whose jobs may have changed.
-pub(crate) fn wait(
+/// How `wait` begins, with its arguments, in the shell's process of a kernel (XCU wait). It asks to wait for the first operand that names a process
+/// that the shell knows, or a job, and without operands for all asynchronous lists (`BuiltinRest::Waits`); behind the answer `resume` does the
+/// rest. It is over at once, with the status 127 and a message about each job ID, where no operand names one of these, and with a message and the
+/// status 2 where its arguments are wrong. The shell's jobs are brought up to date, and nothing else of it changes. The only error is want of
+/// memory; what the shell is then is left open.
+pub fn wait(
     alloc: Global,
     kernel: &Kernel,
     shell: &mut Shell,

@@ -1,7 +1,7 @@
 //! What a built-in does behind the kernel's answer.
 ghost use Rattle.std.specs.Prelude.{◌≡◌, IfOk};
-ghost use Rattle.sh_builtin.specs.Resuming.{resumed};
-ghost use Rattle.sh_builtin.specs.Running.{with_outcome};
+ghost use Rattle.sh_builtin_asking.specs.BuiltIns.{with_outcome};
+ghost use Rattle.sh_builtin_asking.specs.Resuming.{resumed};
 ghost use Rattle.sh_kernel.specs.State.{KernelState, StandsAt};
 
 use crate::answer::Answer;

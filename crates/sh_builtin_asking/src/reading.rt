@@ -1,7 +1,7 @@
 //! The built-in read (XCU read).
 ghost use Rattle.std.specs.Prelude.{◌≡◌, IfOk};
-ghost use Rattle.sh_builtin.specs.Resuming.{fields_given, line_by, line_ended, line_read, line_resumed};
-ghost use Rattle.sh_builtin.specs.Running.{read_outcome, with_outcome};
+ghost use Rattle.sh_builtin_asking.specs.BuiltIns.{read_outcome, with_outcome};
+ghost use Rattle.sh_builtin_asking.specs.Resuming.{fields_given, line_by, line_ended, line_read, line_resumed};
 ghost use Rattle.sh_builtin_regular.specs.Lines.{bytes_taken};
 ghost use Rattle.sh_builtin_regular.specs.Operands.{reader_of};
 
@@ -14,8 +14,10 @@ use sh_builtin_regular::LineReader;
 use sh_builtin_shell::Shell;
 use std::alloc::Global;
 
-/// read with its arguments.
-pub(crate) fn read(alloc: Global, arguments: &[Text]) -> Result<Outcome, NoMemory>
+/// How `read` begins, with its arguments (XCU read): `read [-r] NAME..`. It asks for bytes of a line (`BuiltinRest::Reads`); behind the answer
+/// `resume` does the rest. It is over at once, with a message and the status 2, where an option is wrong, where there is no name, or where a word
+/// is no name. The only error is want of memory.
+pub fn read(alloc: Global, arguments: &[Text]) -> Result<Outcome, NoMemory>
     ensures { IfOk result (λ outcome. outcome ≡ read_outcome (reader_of arguments.now)) }
 {
     match LineReader::of(alloc, arguments)? {

@@ -1,0 +1,2 @@
+pub mod BuiltIns
+pub mod Resuming
