@@ -2,7 +2,7 @@
 """Instructions for each command substitution of one word of the built program, and how they grow with their number.
 
 Runs `: $(:)$(:)..` under valgrind's callgrind, with 1, 11, 101 and 1,001 substitutions, and prints the instructions for each further one,
-and the ratio of the last two figures. A word is expanded again from its front for each answer, so the last one costs more than the first.
+and the ratio of the last two figures. An expansion goes on from where it waited, so the number of those before makes little difference.
 
 Needs valgrind, and psh built (./build), or a path to it as the only word.
 """

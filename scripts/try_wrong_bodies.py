@@ -54,6 +54,8 @@ UNPROVED = re.compile(r"it is not proved that|error")
 OWNER = re.compile(r"(?:<.*> )?(?:(\w+)(?:<.*>)?|(\w+) for (\w+)(?:<.*>)?)")
 # What is said of a proof that names what an edit took away.
 NAMES = re.compile(r"has no field|is not in scope|has no `|was not admitted")
+# What is said of a function that is asked for by a name that the prover doesn't have.
+UNKNOWN = re.compile(r"has no function `([^`]+)`")
 # What is said of a function whose proof the prover can't begin, whatever it does.
 UNCOVERED = "does not cover this function"
 REFUSED, WEAK, COMPILES, PROVED = "refused", "refused, but for no clause", "compiles", "NOT REFUSED"
@@ -225,21 +227,23 @@ class Trial:
         return place[1] == edit.function()[0] and first <= int(place[2]) <= last
 
     def attempt(self, edits, is_whole=False):
-        """Tries edits in one check, and notes what came of each."""
+        """Tries edits in one check, notes what came of each, and gives what the prover answered."""
         answers = self.check(edits, [] if is_whole else [it.path_of_function() for it in edits])
         for edit in edits:
             edit.came = self.answer(edit, answers, len(edits) == 1)
+        return answers
 
     def attempt_all(self, edits):
         """Tries edits together; those that came to no answer again, as long as that brings one. Each that isn't refused is then tried by
-        itself, on the whole crate."""
+        itself, on the whole crate. So is one in a function whose name isn't known, as that of a method apart from its type's file."""
         left = [it for it in edits if it.function()]
         while left:
-            self.attempt(left)
+            answers = self.attempt(left)
+            unknown = {name for line in answers.lines for name in UNKNOWN.findall(line)}
             unsure = [it for it in left if it.came[0] == UNSURE]
-            if len(unsure) == len(left):
+            if len(unsure) == len(left) and not unknown:
                 break
-            left = unsure
+            left = [it for it in unsure if it.path_of_function() not in unknown]
         for edit in edits:
             if not edit.function() or edit.came[0] in (UNSURE, PROVED):
                 self.attempt([edit], True)

@@ -7,3 +7,4 @@ pub use Rattle.sh_builtin_outcome.specs.declared.outcome.Leave
 pub use Rattle.sh_builtin_outcome.specs.declared.outcome.Outcome
 pub use Rattle.sh_builtin_outcome.specs.declared.outcome.TextOrigin
 pub use Rattle.sh_builtin_outcome.specs.declared.outcome.TextRun
+pub use Rattle.sh_expand.specs.Answers

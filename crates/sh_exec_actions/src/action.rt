@@ -9,8 +9,9 @@ use sh_exec_parts::message::Piece;
 use sh_exec_parts::redirection::Redirection;
 use sh_exec_parts::simple::Assignment;
 use sh_exec_parts::{Queue, Rest};
+use sh_expand::Pending;
 use sh_syntax::tree::{AndOr, Command, CompoundList, Parts};
-use sh_vars::{Entry, Vars};
+use sh_vars::Entry;
 
 /// What runs a command once its redirections and assignments are done.
 #[derive(Drop)]
@@ -116,13 +117,6 @@ pub enum ToExpand {
     CaseWord(Shared<Command>),
     /// The next pattern of a `case`.
     CasePattern(Case),
-}
-
-/// An expansion that needs answers: the shell's variables at its start, and the answers so far.
-#[derive(Drop)]
-pub struct Pending {
-    pub start: Vars,
-    pub answers: Sequence<Text>,
 }
 
 /// A command substitution (2.6.3) whose process runs.

@@ -2,8 +2,8 @@
 ghost use Rattle.std.specs.Prelude.{◌≡◌, IfOk};
 
 use crate::action::{
-    Action, Active, Case, CaseBranch, ExpandedCommand, Finish, ForLoop, Launch, Pending,
-    PipelineWait, ProgramStart, Report, Role, Saved, Stages, Substitution, ToExpand, Undo,
+    Action, Active, Case, CaseBranch, ExpandedCommand, Finish, ForLoop, Launch, PipelineWait,
+    ProgramStart, Report, Role, Saved, Stages, Substitution, ToExpand, Undo,
 };
 use sh_base::NoMemory;
 use sh_base::sequence::{Sequence, Text, copies_of};
@@ -12,6 +12,7 @@ use sh_builtin_outcome::Completion;
 use sh_exec_machine::Undone;
 use sh_exec_parts::message::Piece;
 use sh_exec_parts::{Copying, Queue, copy_all};
+use sh_expand::Pending;
 use sh_syntax::tree::Command;
 use std::alloc::Global;
 
@@ -209,25 +210,12 @@ impl Copying for ToExpand {
     }
 }
 
-impl Copying for Pending {
-    fn copy(&self, alloc: Global) -> Result<Pending, NoMemory> {
-        let answers = copy_texts(alloc, self.answers.as_slice())?;
-        match self.start.copy() {
-            Ok(start) => Ok(Pending { start, answers }),
-            Err(error) => {
-                drop(answers);
-                Err(NoMemory::from(error))
-            },
-        }
-    }
-}
-
 /// A copy of an expansion that needs answers, if there is one.
 fn copy_pending(alloc: Global, pending: &Option<Pending>) -> Result<Option<Pending>, NoMemory>
     ensures { IfOk result (λ copy. copy ≡ pending.now) }
 {
     match pending {
-        Some(pending) => Ok(Some(pending.copy(alloc)?)),
+        Some(pending) => Ok(Some(Copying::copy(pending, alloc)?)),
         None => Ok(None),
     }
 }
@@ -250,7 +238,7 @@ impl Copying for Substitution {
                 return Err(lack);
             },
         };
-        match self.pending.copy(alloc) {
+        match Copying::copy(&self.pending, alloc) {
             Ok(pending) => Ok(Substitution {
                 wants,
                 pending,

@@ -12,7 +12,7 @@ mod suspended;
 
 pub use action::{
     Action, Active, Case, CaseBranch, Expanded, ExpandedCommand, Finish, ForLoop, Launch, Move,
-    Pending, PipelineWait, ProgramStart, Report, Role, Saved, Stages, Substitution, ToExpand, Undo,
+    PipelineWait, ProgramStart, Report, Role, Saved, Stages, Substitution, ToExpand, Undo,
 };
 pub use beginning::Beginning;
 pub use form::{Branches, Form, Frame, Loop};
@@ -20,5 +20,6 @@ pub use preparing::{
     begin_command, failing, first_place, go_ahead, no_undo, not_done, perform, prepare,
 };
 pub use sh_builtin_outcome::{BuiltinRest, Invocation, JobWait, Leave, TextOrigin, TextRun};
+pub use sh_expand::Pending;
 pub use status::CommandStatus;
 pub use suspended::Suspended;

@@ -1,4 +1,3 @@
 pub mod Finding
 pub mod Restoring
-pub mod Resuming
 pub mod Turning

@@ -3,12 +3,12 @@ use Rattle.std.proofs.Common.{◌≡◌, ◌<◌, ℕ, List, ◌∷◌, Bool, tr
 use Rattle.sh_exec_parts.specs.Messages.{read_only}
 use Rattle.sh_exec_parts.specs.declared.simple.Assignment.{Assignment}
 use Rattle.sh_builtin_environment.specs.Variables.{may_set}
-use Rattle.sh_exec_command.specs.Assigning.{Step, assignments_turn, assigned_by, assigned_one, behind, with_saved_variable, fatal_step, value_of, value_step}
-use Rattle.sh_exec_command.specs.Expanding.{Turn, start_of}
+use Rattle.sh_exec_command.specs.Assigning.{Step, assignments_turn, assigned_by, assigned_one, behind, with_saved_variable, fatal_step, value_start, value_step}
+use Rattle.sh_exec_command.specs.Expanding.{Turn}
 use Rattle.sh_exec_command.specs.declared.assigning.Assigned.{Assigned}
 use Rattle.sh_exec_command.specs.declared.assigning.Assigned.TheVariants.{On, Over}
-use Rattle.sh_exec_actions.specs.declared.action.Pending.{Pending}
 use Rattle.sh_exec_actions.specs.declared.action.ExpandedCommand.{ExpandedCommand}
+use Rattle.sh_expand.specs.Answers.{Pending, fields_in}
 use Rattle.sh_expand.specs.Expanding as expanding
 use Rattle.sh_files.specs.Nodes.{FileMap}
 use Rattle.sh_vars.specs.Environment.{Environment}
@@ -35,7 +35,7 @@ by_leaves p a pending (expanding.Stops fault env) = tt
 
 one_leaves : (files : FileMap) (env : Environment) (p : ExpandedCommand) (a : Assignment) (pending : Option Pending) → Leaves p.assignments (assigned_one files env p a pending).outcome
 unfolding assigned_one
-one_leaves files env p a pending = by_leaves p a (start_of env pending) (value_of files (start_of env pending) a)
+one_leaves files env p a pending = by_leaves p a (value_start env a pending) (fields_in files (value_start env a pending))
 
 -- an assignment that is done leaves those behind it
 pub on_leaves : (files : FileMap) (env : Environment) (p next : ExpandedCommand) (a : Assignment) (pending : Option Pending) (s : Step)

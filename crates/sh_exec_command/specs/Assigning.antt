@@ -3,7 +3,6 @@ use Rattle.std.specs.Prelude.{ℕ, List, [], ◌∷◌, ◌++◌, not, ◌||◌,
 use Rattle.sh_exec_parts.specs.Messages.{fault_text, read_only}
 use Rattle.sh_exec_parts.specs.declared.simple.Assignment.{Assignment}
 use Rattle.sh_builtin_environment.specs.Variables.{may_set}
-use Rattle.sh_exec_command.specs.Answers.{expansion_with}
 use Rattle.sh_exec_command.specs.Expanding.{Turn, fatal, start_of}
 use Rattle.sh_exec_actions.specs.Preparing.{final_move}
 use Rattle.sh_exec_command.specs.Undoing.{saved_of}
@@ -11,12 +10,12 @@ use Rattle.sh_exec_command.specs.declared.assigning.Assigned.{Assigned}
 use Rattle.sh_exec_command.specs.declared.assigning.Assigned.TheVariants.{On, Over}
 use Rattle.sh_exec_actions.specs.declared.action.Expanded.TheVariants as expanded_as
 use Rattle.sh_exec_actions.specs.declared.action.Move.TheVariants.{Held}
-use Rattle.sh_exec_actions.specs.declared.action.Pending.{Pending}
 use Rattle.sh_exec_actions.specs.declared.action.ExpandedCommand.{ExpandedCommand}
 use Rattle.sh_exec_actions.specs.declared.action.Role.{Role}
 use Rattle.sh_exec_actions.specs.declared.action.Role.TheVariants as role
 use Rattle.sh_exec_actions.specs.declared.action.Undo.{Undo}
 use Rattle.sh_exec_actions.specs.declared.action.ToExpand.TheVariants.{Values}
+use Rattle.sh_expand.specs.Answers.{Pending, fields_in}
 use Rattle.sh_expand.specs.Expanding as expanding
 use Rattle.sh_expand_parts.specs.declared.context.Context.TheVariants as context
 use Rattle.sh_expand.specs.declared.wanted.Wanted.{Wanted}
@@ -62,8 +61,9 @@ text_of fields = unwrap_or (slice_get fields 0) []
 abbrev pub value_wanted : Parts → Wanted
 value_wanted parts = record { parts = parts; context = context.Assignment }
 
-abbrev pub value_of : FileMap → Pending → Assignment → expanding.Result
-value_of files pending assignment = expansion_with files (value_wanted assignment.value ∷ []) pending.start pending.answers
+-- the expansion of its value that waits, or that begins
+abbrev pub value_start : Environment → Assignment → Option Pending → Pending
+value_start env assignment pending = start_of env (value_wanted assignment.value ∷ []) pending
 
 -- what the shell's variables and the command are after one assignment
 pub record Step : Type 0 where
@@ -90,7 +90,7 @@ assigned_by p assignment pending (expanding.Stops fault env) = fatal_step p env 
 
 unfoldable pub assigned_one : FileMap → Environment → ExpandedCommand → Assignment → Option Pending → Step
 assigned_one files env p assignment pending =
-    assigned_by p assignment (start_of env pending) (value_of files (start_of env pending) assignment)
+    assigned_by p assignment (value_start env assignment pending) (fields_in files (value_start env assignment pending))
 
 -- the next assignment, where the turn isn't over
 abbrev pub behind : Environment → Assigned → (Environment → ExpandedCommand → Turn) → Turn

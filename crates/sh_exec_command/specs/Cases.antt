@@ -3,7 +3,6 @@ use Rattle.std.specs.Prelude.{ℕ, List, [], ◌∷◌, map, Option, Some, None,
 use Rattle.std.specs.List.{flat_map}
 use Rattle.sh_exec_parts.specs.Messages.{fault_text}
 use Rattle.sh_exec_parts.specs.Simple.{Opened}
-use Rattle.sh_exec_command.specs.Answers.{Fails, Needs, Pattern, Patterned, expansion_with, pattern_with, single}
 use Rattle.sh_exec_command.specs.Assigning.{text_of}
 use Rattle.sh_exec_command.specs.Expanding.{Turn, fatal, start_of}
 use Rattle.sh_exec_actions.specs.Statuses.{unexcused}
@@ -15,10 +14,12 @@ use Rattle.sh_exec_actions.specs.declared.action.CaseBranch.{CaseBranch}
 use Rattle.sh_exec_actions.specs.declared.action.Expanded.TheVariants.{Need, Go}
 use Rattle.sh_exec_actions.specs.declared.action.Move.{Move}
 use Rattle.sh_exec_actions.specs.declared.action.Move.TheVariants.{At, Enter}
-use Rattle.sh_exec_actions.specs.declared.action.Pending.{Pending}
 use Rattle.sh_exec_actions.specs.declared.action.ToExpand.TheVariants.{CaseWord, CasePattern}
 use Rattle.sh_exec_command.specs.declared.cases.Header.{Header}
+use Rattle.sh_expand.specs.Answers.{Fails, Needs, Pattern, Patterned, Pending, fields_in, pattern_from}
 use Rattle.sh_expand.specs.Expanding as expanding
+use Rattle.sh_expand.specs.declared.wanted.Wanted.{Wanted}
+use Rattle.sh_expand_parts.specs.declared.context.Context.TheVariants.{Single}
 use Rattle.sh_files.specs.Nodes.{FileMap}
 use Rattle.sh_pattern.specs.Deciding.{is_match}
 use Rattle.sh_pattern.specs.declared.pattern_byte.PatternByte.{PatternByte}
@@ -27,6 +28,7 @@ use Rattle.sh_syntax.specs.declared.tree.Command.{Command}
 use Rattle.sh_syntax.specs.declared.tree.Command.TheOpen as layer
 use Rattle.sh_syntax.specs.declared.tree.Command.TheViews as view
 use Rattle.sh_syntax.specs.declared.tree.CompoundList.{CompoundList}
+use Rattle.sh_syntax.specs.declared.tree.Parts.{Parts}
 use Rattle.sh_syntax.specs.declared.tree.Word.{Word}
 use Rattle.sh_vars.specs.Environment.{Environment}
 
@@ -61,6 +63,10 @@ header_of_command (layer.Function name body) = None
 unfoldable pub header_of : Command → Option Header
 header_of command = header_of_command (view.out-Command command)
 
+-- a word that gives one text
+abbrev pub single : Parts → Wanted
+single parts = record { parts = parts; context = Single }
+
 -- ---- the next pattern is tried; where none is left nothing is run, and the status is 0
 abbrev pub next_branch : List ℕ → List CaseBranch → Active
 next_branch word [] = Done (unexcused 0)
@@ -72,10 +78,12 @@ word_by command pending branches (expanding.Need program env) = record { environ
 word_by command pending branches (expanding.Fields fields env) = record { environment = env; outcome = Go (At (next_branch (text_of fields) branches)) }
 word_by command pending branches (expanding.Stops fault env) = record { environment = env; outcome = Go (At (fatal (fault_text fault))) }
 
+abbrev pub word_from : FileMap → Command → List CaseBranch → Pending → Turn
+word_from files command branches pending = word_by command pending branches (fields_in files pending)
+
 abbrev pub header_turn : FileMap → Environment → Command → Option Pending → Option Header → Turn
 header_turn files env command pending None = record { environment = env; outcome = Go (At (Done (unexcused 0))) }
-header_turn files env command pending (Some header) =
-    let p = start_of env pending in word_by command p header.branches (expansion_with files (single header.word ∷ []) p.start p.answers)
+header_turn files env command pending (Some header) = word_from files command header.branches (start_of env (single header.word ∷ []) pending)
 
 unfoldable pub case_turn : FileMap → Environment → Command → Option Pending → Turn
 case_turn files env command pending = header_turn files env command pending (header_of command)
@@ -90,10 +98,12 @@ pattern_by word branch branches pending (Needs program env) =
 pattern_by word branch branches pending (Pattern pattern env) = record { environment = env; outcome = Go (tried word branch branches pattern) }
 pattern_by word branch branches pending (Fails fault env) = record { environment = env; outcome = Go (At (fatal (fault_text fault))) }
 
+abbrev pub branch_from : List ℕ → CaseBranch → List CaseBranch → Pending → Turn
+branch_from word branch branches pending = pattern_by word branch branches pending (pattern_from pending)
+
 abbrev pub branch_turn : Environment → List ℕ → Option Pending → List CaseBranch → Turn
 branch_turn env word pending [] = record { environment = env; outcome = Go (At (Done (unexcused 0))) }
-branch_turn env word pending (branch ∷ branches) =
-    let p = start_of env pending in pattern_by word branch branches p (pattern_with (single branch.pattern ∷ []) p.start p.answers)
+branch_turn env word pending (branch ∷ branches) = branch_from word branch branches (start_of env (single branch.pattern ∷ []) pending)
 
 unfoldable pub pattern_turn : Environment → Case → Option Pending → Turn
 pattern_turn env case pending = branch_turn env case.word pending case.branches

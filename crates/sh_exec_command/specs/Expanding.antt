@@ -1,12 +1,11 @@
--- The expansion turn of a simple command's words (XCU 2.9.1.1, steps 1 and 2): always from the first word, in the variables at
--- its start, with the answers so far.
+-- The expansion turn of a simple command's words (XCU 2.9.1.1, steps 1 and 2): in the variables at its start, with the answers so
+-- far.
 use Rattle.std.specs.Prelude.{ℕ, List, [], Bool, Option, Some, None}
 use Rattle.sh_builtin_shell.specs.Functions.{Named}
 use Rattle.sh_exec_actions.specs.Statuses as statuses
 use Rattle.sh_exec_parts.specs.Messages.{fault_text, message}
 use Rattle.sh_exec_parts.specs.Simple.{items_of}
 use Rattle.sh_exec_parts.specs.Wants.{wanted_of}
-use Rattle.sh_exec_command.specs.Answers.{expansion_with}
 use Rattle.sh_exec_actions.specs.Preparing.{first_move, prepared_of}
 use Rattle.sh_exec_actions.specs.declared.action.Active.{Active}
 use Rattle.sh_exec_actions.specs.declared.action.Active.TheVariants.{Next}
@@ -14,10 +13,11 @@ use Rattle.sh_exec_actions.specs.declared.action.Expanded.{Expanded}
 use Rattle.sh_exec_actions.specs.declared.action.Expanded.TheVariants.{Need, Go}
 use Rattle.sh_exec_actions.specs.declared.action.Finish.TheVariants.{Fault}
 use Rattle.sh_exec_actions.specs.declared.action.Move.TheVariants.{At}
-use Rattle.sh_exec_actions.specs.declared.action.Pending.{Pending}
 use Rattle.sh_exec_actions.specs.declared.action.Action.TheVariants.{Writing}
 use Rattle.sh_exec_actions.specs.declared.action.ToExpand.TheVariants.{Words}
+use Rattle.sh_expand.specs.Answers.{Pending, fields_in}
 use Rattle.sh_expand.specs.Expanding as expanding
+use Rattle.sh_expand.specs.declared.wanted.Wanted.{Wanted}
 use Rattle.sh_files.specs.Nodes.{FileMap}
 use Rattle.sh_syntax.specs.declared.tree.Command.{Command}
 use Rattle.sh_vars.specs.Environment.{Environment}
@@ -27,10 +27,10 @@ pub record Turn : Type 0 where
   pub environment : Environment
   pub outcome : Expanded
 
--- where an expansion begins that has had no answers
-abbrev pub start_of : Environment → Option Pending → Pending
-start_of env None = record { start = env; answers = [] }
-start_of env (Some pending) = pending
+-- the expansion that waits, or that of these words, which has had no answers
+abbrev pub start_of : Environment → List Wanted → Option Pending → Pending
+start_of env words None = record { words = words; start = env; answers = [] }
+start_of env words (Some pending) = pending
 
 -- an error that ends the shell (2.8.1), once its message is written
 abbrev pub fatal : List ℕ → Active
@@ -47,7 +47,8 @@ words_by functions command in_place status pending (expanding.Stops fault env) =
 
 abbrev pub words_from : FileMap → List Named → Command → (in_place : Bool) → (status : ℕ) → Pending → Turn
 words_from files functions command in_place status pending =
-    words_by functions command in_place status pending (expansion_with files (wanted_of (items_of command)) pending.start pending.answers)
+    words_by functions command in_place status pending (fields_in files pending)
 
 unfoldable pub words_turn : FileMap → Environment → List Named → Command → (in_place : Bool) → (status : ℕ) → Option Pending → Turn
-words_turn files env functions command in_place status pending = words_from files functions command in_place status (start_of env pending)
+words_turn files env functions command in_place status pending =
+    words_from files functions command in_place status (start_of env (wanted_of (items_of command)) pending)

@@ -1,4 +1,3 @@
-pub mod Answers
 pub mod Assigning
 pub mod Cases
 pub mod Defining

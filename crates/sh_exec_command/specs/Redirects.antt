@@ -3,16 +3,15 @@ use Rattle.std.specs.Prelude.{true, ℕ, List, [], map, Option}
 use Rattle.sh_exec_parts.specs.Messages.{fault_text}
 use Rattle.sh_exec_parts.specs.Redirections.{redirections_of}
 use Rattle.sh_exec_parts.specs.Simple.{Opened, compound_redirects, redirect_wanted}
-use Rattle.sh_exec_command.specs.Answers.{expansion_with}
 use Rattle.sh_exec_command.specs.Expanding.{Turn, fatal, start_of}
 use Rattle.sh_exec_actions.specs.Preparing.{ahead, no_undo}
 use Rattle.sh_exec_actions.specs.declared.action.Expanded.TheVariants.{Need, Go}
 use Rattle.sh_exec_actions.specs.declared.action.ExpandedCommand.{ExpandedCommand}
 use Rattle.sh_exec_actions.specs.declared.action.Move.TheVariants.{At}
-use Rattle.sh_exec_actions.specs.declared.action.Pending.{Pending}
 use Rattle.sh_exec_actions.specs.declared.action.Role.{Role}
 use Rattle.sh_exec_actions.specs.declared.action.Role.TheVariants as role
 use Rattle.sh_exec_actions.specs.declared.action.ToExpand.TheVariants as wants
+use Rattle.sh_expand.specs.Answers.{Pending, fields_in}
 use Rattle.sh_expand.specs.Expanding as expanding
 use Rattle.sh_files.specs.Nodes.{FileMap}
 use Rattle.sh_syntax.specs.declared.tree.Command.{Command}
@@ -57,8 +56,7 @@ redirects_by command pending (expanding.Fields fields env) = record { environmen
 redirects_by command pending (expanding.Stops fault env) = record { environment = env; outcome = Go (At (fatal (fault_text fault))) }
 
 abbrev pub redirects_from : FileMap → Command → Pending → Turn
-redirects_from files command pending =
-    redirects_by command pending (expansion_with files (map redirect_wanted (compound_redirects command)) pending.start pending.answers)
+redirects_from files command pending = redirects_by command pending (fields_in files pending)
 
 unfoldable pub redirects_turn : FileMap → Environment → Command → Option Pending → Turn
-redirects_turn files env command pending = redirects_from files command (start_of env pending)
+redirects_turn files env command pending = redirects_from files command (start_of env (map redirect_wanted (compound_redirects command)) pending)

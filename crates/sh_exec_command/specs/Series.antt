@@ -2,7 +2,6 @@
 use Rattle.std.specs.Prelude.{ℕ, List, [], ◌∷◌, map, Option, Some, None, if◌then◌else◌}
 use Rattle.sh_exec_parts.specs.Messages.{fault_text, read_only}
 use Rattle.sh_exec_parts.specs.Simple.{Opened, word_wanted}
-use Rattle.sh_exec_command.specs.Answers.{expansion_with}
 use Rattle.sh_builtin_environment.specs.Variables.{may_set}
 use Rattle.sh_exec_command.specs.Expanding.{Turn, fatal, start_of}
 use Rattle.sh_exec_actions.specs.Statuses.{unexcused}
@@ -10,7 +9,6 @@ use Rattle.sh_exec_actions.specs.declared.action.Active.{Active}
 use Rattle.sh_exec_actions.specs.declared.action.Active.TheVariants.{Next, Done}
 use Rattle.sh_exec_actions.specs.declared.action.Expanded.TheVariants.{Need, Go}
 use Rattle.sh_exec_actions.specs.declared.action.Move.TheVariants.{At}
-use Rattle.sh_exec_actions.specs.declared.action.Pending.{Pending}
 use Rattle.sh_exec_actions.specs.declared.action.Action.TheVariants.{AssignLoopVariable}
 use Rattle.sh_exec_actions.specs.declared.status.CommandStatus.{CommandStatus}
 use Rattle.sh_exec_actions.specs.declared.action.ForLoop.{ForLoop}
@@ -20,6 +18,7 @@ use Rattle.sh_exec_command.specs.declared.series.Round.{Round}
 use Rattle.sh_exec_command.specs.declared.series.Round.TheVariants.{Body, Over}
 use Rattle.sh_exec_command.specs.declared.series.Values.{Values}
 use Rattle.sh_exec_command.specs.declared.series.Values.TheVariants.{Words, Parameters}
+use Rattle.sh_expand.specs.Answers.{Pending, fields_in}
 use Rattle.sh_expand.specs.Expanding as expanding
 use Rattle.sh_expand.specs.declared.wanted.Wanted.{Wanted}
 use Rattle.sh_files.specs.Nodes.{FileMap}
@@ -71,9 +70,11 @@ series_by command pending name body (expanding.Fields fields env) =
 series_by command pending name body (expanding.Stops fault env) =
     record { environment = env; outcome = Go (At (fatal (fault_text fault))) }
 
+abbrev pub series_from : FileMap → Command → List ℕ → CompoundList → Pending → Turn
+series_from files command name body pending = series_by command pending name body (fields_in files pending)
+
 abbrev pub values_turn : FileMap → Environment → Command → Option Pending → List ℕ → CompoundList → Values → Turn
-values_turn files env command pending name body (Words wanted) =
-    let p = start_of env pending in series_by command p name body (expansion_with files wanted p.start p.answers)
+values_turn files env command pending name body (Words wanted) = series_from files command name body (start_of env wanted pending)
 values_turn files env command pending name body Parameters =
     record { environment = env; outcome = Go (At (begun_with name env.positional body)) }
 

@@ -2,13 +2,13 @@
 ghost use Rattle.std.specs.Prelude.{◌≡◌, ◌∷◌, [], IfOk, IsTrue, OnOk};
 ghost use Rattle.sh_builtin_environment.specs.Variables.{may_set};
 ghost use Rattle.sh_exec_actions.specs.Statuses as statuses;
-ghost use Rattle.sh_exec_command.specs.Answers.{expansion_with, result_of};
-ghost use Rattle.sh_exec_command.specs.Assigning.{assign_turn, assignments_turn, assigned_by, assigned_one, is_passing, is_undone, with_saved_variable, fatal_step, text_of, undo_with, value_of, value_wanted, value_step, with_assigned};
+ghost use Rattle.sh_exec_command.specs.Assigning.{assign_turn, assignments_turn, assigned_by, assigned_one, is_passing, is_undone, with_saved_variable, fatal_step, text_of, undo_with, value_start, value_step, with_assigned};
 ghost use Rattle.sh_exec_parts.specs.Messages.{fault_text};
-ghost use Rattle.sh_exec_command.specs.Expanding.{fatal, start_of};
+ghost use Rattle.sh_exec_command.specs.Expanding.{fatal};
+ghost use Rattle.sh_expand.specs.Answers.{fields_in};
+ghost use Rattle.sh_expand.specs.Pendings.{IsKept, result_of};
 
-use crate::answers::expand;
-use crate::expanding::{fatal_message, start};
+use crate::expanding::{expand, fatal_message};
 use crate::undo::save;
 use sh_base::NoMemory;
 use sh_base::sequence::{Sequence, Text};
@@ -19,7 +19,7 @@ use sh_exec_actions::{
 };
 use sh_exec_parts::message::{Piece, not_expanded, read_only};
 use sh_exec_parts::simple::Assignment;
-use sh_expand::{Context, Fault, Step, Wanted};
+use sh_expand::{Context, Fault, Progress, Wanted};
 use sh_files::Files;
 use sh_syntax::tree::{CompoundList, Parts};
 use sh_vars::{Vars, VarsFault};
@@ -189,21 +189,21 @@ pub(crate) fn text_of(fields: &[Text]) -> &[u8]
 /// What a value comes to.
 fn expand_value(
     alloc: Global,
-    value: &Shared<Parts>,
-    answers: &[Text],
+    assignment: &Assignment,
+    pending: Option<Pending>,
     vars: &mut Vars,
     files: &Files,
-) -> Result<Step, NoMemory>
-    ensures { IfOk result (λ step.
-        result_of step vars.new ≡ expansion_with files.now (value_wanted value.now ∷ [])
-        vars.old answers.now) }
+) -> Result<Progress, NoMemory>
+    ensures result { IfOk result (λ p.
+        result_of p vars.new ≡ fields_in files.now (value_start vars.old assignment.now pending)) }
+    ensures kept { IfOk result (λ p. IsKept p (value_start vars.old assignment.now pending)) }
 {
     let mut wanted = Sequence::new(alloc);
     wanted.push(Wanted {
-        parts: value.share()?,
+        parts: assignment.value.share()?,
         context: Context::Assignment,
     })?;
-    expand(alloc, wanted, vars, files, answers)
+    expand(alloc, wanted, pending, vars, files)
 }
 
 /// A command whose next assignment is this one again.
@@ -292,32 +292,10 @@ fn assign_one(
         record { environment = vars.new; outcome = a } ≡ assigned_one files.now vars.old prepared
         assignment pending) }
 {
-    let pending = match start(alloc, vars, pending) {
-        Ok(pending) => pending,
-        Err(lack) => {
-            drop(assignment);
-            drop(prepared);
-            return Err(lack);
-        },
-    };
-    let answers = pending.answers.as_slice();
-    match expand_value(alloc, &assignment.value, answers, vars, files) {
-        Ok(Step::Need(program)) => wait(prepared, assignment, program, pending),
-        Ok(Step::Fields(fields)) => {
-            drop(pending);
-            assign_fields(alloc, prepared, assignment, fields, vars)
-        },
-        Ok(Step::Fault(fault)) => {
-            drop(pending);
-            drop(assignment);
-            fail(alloc, prepared, fault)
-        },
-        Err(lack) => {
-            drop(pending);
-            drop(assignment);
-            drop(prepared);
-            Err(lack)
-        },
+    match expand_value(alloc, &assignment, pending, vars, files)? {
+        Progress::Need { program, pending } => wait(prepared, assignment, program, pending),
+        Progress::Fields(fields) => assign_fields(alloc, prepared, assignment, fields, vars),
+        Progress::Fault(fault) => fail(alloc, prepared, fault),
     }
 }
 

@@ -1,15 +1,15 @@
 //! A `case`.
 ghost use Rattle.std.specs.Prelude.{◌≡◌, ◌∷◌, ◌++◌, [], IfOk, OnOk};
-ghost use Rattle.sh_exec_command.specs.Answers.{expansion_with, pattern_with, result_of, single};
 ghost use Rattle.sh_exec_command.specs.Assigning.{text_of};
-ghost use Rattle.sh_exec_command.specs.Cases.{branch_of, branch_turn, branches_of, case_header, case_turn, header_in, header_of, header_turn, item_branches, next_branch, pattern_by, pattern_turn, tried, word_by};
+ghost use Rattle.sh_exec_command.specs.Cases.{branch_from, branch_of, branch_turn, branches_of, case_header, case_turn, header_in, header_of, header_turn, item_branches, next_branch, pattern_turn, single, tried, word_from};
 ghost use Rattle.sh_exec_command.specs.Expanding.{start_of};
+ghost use Rattle.sh_expand.specs.Answers.{fields_in, pattern_from};
+ghost use Rattle.sh_expand.specs.Pendings.{IsKept, IsPatternKept, patterned_by, result_of};
 ghost use Rattle.sh_pattern.specs.Deciding.{is_match};
 ghost use Rattle.sh_syntax.specs.declared.tree.Command.TheViews as view;
 
-use crate::answers::{PatternStep, expand, expand_pattern};
 use crate::assigning::text_of;
-use crate::expanding::{fail, start};
+use crate::expanding::{expand, fail};
 use sh_base::NoMemory;
 use sh_base::sequence::{Sequence, Text};
 use sh_base::shared::Shared;
@@ -17,7 +17,7 @@ use sh_exec_actions::{
     Action, Active, Case, CaseBranch, CommandStatus, Expanded, Move, Pending, ToExpand,
 };
 use sh_exec_parts::Queue;
-use sh_expand::{Context, Step, Wanted};
+use sh_expand::{Context, PatternProgress, Progress, Wanted};
 use sh_files::Files;
 use sh_pattern::{PatternByte, matches};
 use sh_syntax::tree::{CaseItem, Command, CompoundForm, CompoundList, Parts, Word};
@@ -130,23 +130,16 @@ fn first_branch(
     Ok(Expanded::Go(Move::At(active)))
 }
 
-/// What a word comes to that gives one text.
-fn expand_single(
-    alloc: Global,
-    word: Shared<Parts>,
-    vars: &mut Vars,
-    files: &Files,
-    answers: &[Text],
-) -> Result<Step, NoMemory>
-    ensures { IfOk result (λ step.
-        result_of step vars.new ≡ expansion_with files.now (single word ∷ []) vars.old answers.now) }
+/// A word that gives one text, to be expanded.
+fn single(alloc: Global, word: Shared<Parts>) -> Result<Sequence<Wanted>, NoMemory>
+    ensures { IfOk result (λ wanted. wanted ≡ single word ∷ []) }
 {
     let mut wanted = Sequence::new(alloc);
     wanted.push(Wanted {
         parts: word,
         context: Context::Single,
     })?;
-    expand(alloc, wanted, vars, files, answers)
+    Ok(wanted)
 }
 
 /// The word of a `case` is expanded.
@@ -154,23 +147,24 @@ fn expand_word(
     alloc: Global,
     command: Shared<Command>,
     header: Header,
-    pending: Pending,
+    pending: Option<Pending>,
     vars: &mut Vars,
     files: &Files,
 ) -> Result<Expanded, NoMemory>
     ensures { IfOk result (λ e.
-        record { environment = vars.new; outcome = e } ≡ word_by command pending header.branches
-        (expansion_with files.now (single header.word ∷ []) vars.old pending.answers)) }
+        record { environment = vars.new; outcome = e } ≡ word_from files.now command header.branches
+        (start_of vars.old (single header.word ∷ []) pending)) }
 {
     let Header { word, branches } = header;
-    match expand_single(alloc, word, vars, files, pending.answers.as_slice())? {
-        Step::Need(program) => Ok(Expanded::Need {
+    let wanted = single(alloc, word)?;
+    match expand(alloc, wanted, pending, vars, files)? {
+        Progress::Need { program, pending } => Ok(Expanded::Need {
             program,
             wants: ToExpand::CaseWord(command),
             pending,
         }),
-        Step::Fields(fields) => first_branch(alloc, fields, branches),
-        Step::Fault(fault) => fail(alloc, fault),
+        Progress::Fields(fields) => first_branch(alloc, fields, branches),
+        Progress::Fault(fault) => fail(alloc, fault),
     }
 }
 
@@ -191,7 +185,6 @@ pub fn case_turn(
     let Some(header) = header_of(alloc, command.get())? else {
         return Ok(Expanded::Go(Move::At(Active::Done(CommandStatus::unexcused(0)))));
     };
-    let pending = start(alloc, vars, pending)?;
     expand_word(alloc, command, header, pending, vars, files)
 }
 
@@ -217,23 +210,43 @@ fn tried(
     Move::At(next_branch(word, branches))
 }
 
-/// The next pattern of a `case` is expanded.
+/// A pattern is expanded from where its expansion waits, or from its beginning where it doesn't wait.
+fn expand_pattern(
+    alloc: Global,
+    pattern: Shared<Parts>,
+    pending: Option<Pending>,
+    vars: &mut Vars,
+    files: &Files,
+) -> Result<PatternProgress, NoMemory>
+    ensures result { IfOk result (λ p.
+        patterned_by p vars.new ≡ pattern_from (start_of vars.old (single pattern ∷ []) pending)) }
+    ensures kept { IfOk result (λ p.
+        IsPatternKept p (start_of vars.old (single pattern ∷ []) pending)) }
+{
+    let wanted = single(alloc, pattern)?;
+    match pending {
+        Some(pending) => Ok(pending.resume_pattern(alloc, vars, files)?),
+        None => Ok(Pending::begin_pattern(alloc, wanted, vars, files)?),
+    }
+}
+
+/// The next pattern of a `case` is expanded, and tried.
 fn expand_branch(
     alloc: Global,
     word: Text,
     branch: CaseBranch,
     branches: Queue<CaseBranch>,
-    pending: Pending,
+    pending: Option<Pending>,
     vars: &mut Vars,
     files: &Files,
 ) -> Result<Expanded, NoMemory>
     ensures { IfOk result (λ e.
-        record { environment = vars.new; outcome = e } ≡ pattern_by word branch branches pending
-        (pattern_with (single branch.pattern ∷ []) vars.old pending.answers)) }
+        record { environment = vars.new; outcome = e } ≡ branch_from word branch branches
+        (start_of vars.old (single branch.pattern ∷ []) pending)) }
 {
     let pattern = branch.pattern.share()?;
-    match expand_pattern(alloc, pattern, vars, files, pending.answers.as_slice())? {
-        PatternStep::Need(program) => {
+    match expand_pattern(alloc, pattern, pending, vars, files)? {
+        PatternProgress::Need { program, pending } => {
             let mut branches = branches;
             branches.put_front(branch)?;
             Ok(Expanded::Need {
@@ -242,10 +255,10 @@ fn expand_branch(
                 pending,
             })
         },
-        PatternStep::Pattern(pattern) => {
+        PatternProgress::Pattern(pattern) => {
             Ok(Expanded::Go(tried(word, branch, branches, pattern.as_slice())))
         },
-        PatternStep::Fault(fault) => fail(alloc, fault),
+        PatternProgress::Fault(fault) => fail(alloc, fault),
     }
 }
 
@@ -267,6 +280,5 @@ pub fn pattern_turn(
     let Some(branch) = branches.take() else {
         return Ok(Expanded::Go(Move::At(Active::Done(CommandStatus::unexcused(0)))));
     };
-    let pending = start(alloc, vars, pending)?;
     expand_branch(alloc, word, branch, branches, pending, vars, files)
 }

@@ -1,15 +1,14 @@
 //! The expansion turn of a simple command's words.
 ghost use Rattle.std.specs.Prelude.{◌≡◌, IfOk};
 ghost use Rattle.sh_exec_actions.specs.Statuses as statuses;
-ghost use Rattle.sh_exec_command.specs.Answers.{expansion_with, result_of};
 ghost use Rattle.sh_exec_parts.specs.Messages.{fault_text};
 ghost use Rattle.sh_exec_parts.specs.Simple.{items_of};
 ghost use Rattle.sh_exec_parts.specs.Wants.{wanted_of};
-ghost use Rattle.sh_exec_command.specs.Expanding.{fatal, start_of, words_by, words_turn};
+ghost use Rattle.sh_exec_command.specs.Expanding.{fatal, start_of, words_turn};
 ghost use Rattle.sh_exec_actions.specs.Preparing.{first_move, prepared_of};
-ghost use Rattle.sh_expand.specs.Expanding as expanding;
+ghost use Rattle.sh_expand.specs.Answers.{fields_in};
+ghost use Rattle.sh_expand.specs.Pendings.{IsKept, result_of};
 
-use crate::answers::expand;
 use sh_base::NoMemory;
 use sh_base::sequence::{Sequence, Text};
 use sh_base::shared::Shared;
@@ -21,36 +20,27 @@ use sh_exec_actions::{
 use sh_exec_parts::message::{Piece, not_expanded};
 use sh_exec_parts::simple::items_of;
 use sh_exec_parts::wanted::wanted_of;
-use sh_expand::{Fault, Step};
+use sh_expand::{Fault, Progress, Wanted};
 use sh_files::Files;
 use sh_syntax::tree::Command;
 use sh_vars::Vars;
 use std::alloc::Global;
 
-/// An expansion that has had no answers, or the one that waits; the variables are those at its start again.
-pub(crate) fn start(
+/// Words are expanded to fields from where their expansion waits, or from the first one on where none waits.
+pub(crate) fn expand(
     alloc: Global,
-    vars: &mut Vars,
+    wanted: Sequence<Wanted>,
     pending: Option<Pending>,
-) -> Result<Pending, NoMemory>
-    ensures pending { IfOk result (λ p. p ≡ start_of vars.old pending) }
-    ensures variables { IfOk result (λ p. vars.new ≡ p.start) }
+    vars: &mut Vars,
+    files: &Files,
+) -> Result<Progress, NoMemory>
+    ensures result { IfOk result (λ p.
+        result_of p vars.new ≡ fields_in files.now (start_of vars.old wanted pending)) }
+    ensures kept { IfOk result (λ p. IsKept p (start_of vars.old wanted pending)) }
 {
     match pending {
-        Some(pending) => match pending.start.copy() {
-            Ok(start) => {
-                *vars = start;
-                Ok(pending)
-            },
-            Err(error) => {
-                drop(pending);
-                Err(NoMemory::from(error))
-            },
-        },
-        None => Ok(Pending {
-            start: vars.copy()?,
-            answers: Sequence::new(alloc),
-        }),
+        Some(waiting) => Ok(waiting.resume(alloc, vars, files)?),
+        None => Ok(Pending::begin(alloc, wanted, vars, files)?),
     }
 }
 
@@ -61,20 +51,27 @@ pub fn fatal_message(piece: Piece) -> Active
     Active::Next(Action::Writing(piece, Finish::Fault(ERROR)))
 }
 
-/// What the words of a command and of its redirections come to, from the first one on, with the answers so far.
+/// What the words of a command and of its redirections come to.
 fn expand_words(
     alloc: Global,
     command: &Command,
-    answers: &[Text],
+    pending: Option<Pending>,
     vars: &mut Vars,
     files: &Files,
-) -> Result<Step, NoMemory>
-    ensures { IfOk result (λ step.
-        result_of step vars.new ≡ expansion_with files.now (wanted_of (items_of command.now))
-        vars.old answers.now) }
+) -> Result<Progress, NoMemory>
+    ensures result { IfOk result (λ p.
+        result_of p vars.new ≡ fields_in files.now
+        (start_of vars.old (wanted_of (items_of command.now)) pending)) }
+    ensures kept { IfOk result (λ p.
+        IsKept p (start_of vars.old (wanted_of (items_of command.now)) pending)) }
 {
-    let wanted = wanted_of(alloc, items_of(command))?;
-    expand(alloc, wanted, vars, files, answers)
+    match pending {
+        Some(pending) => Ok(pending.resume(alloc, vars, files)?),
+        None => {
+            let wanted = wanted_of(alloc, items_of(command))?;
+            Ok(Pending::begin(alloc, wanted, vars, files)?)
+        },
+    }
 }
 
 /// What follows the fields that the words came to.
@@ -106,8 +103,8 @@ pub(crate) fn fail(alloc: Global, fault: Fault) -> Result<Expanded, NoMemory>
     Ok(Expanded::Go(Move::At(fatal_message(piece))))
 }
 
-/// The expansion turn of the words of a simple command and of its redirections (XCU 2.9.1.1), from the first one on, with the
-/// answers so far, in a shell with these functions. The only error is want of memory; what the variables are then is left open.
+/// The expansion turn of the words of a simple command and of its redirections (XCU 2.9.1.1), with the answers so
+/// far, in a shell with these functions. The only error is want of memory; what the variables are then is left open.
 #[tactic(auto, unfolding(crate::specs::Expanding::words_turn))]
 pub fn words_turn(
     alloc: Global,
@@ -123,16 +120,8 @@ pub fn words_turn(
         record { environment = vars.new; outcome = e } ≡ words_turn files.now vars.old functions.now
         command in_place status pending) }
 {
-    let pending = match start(alloc, vars, pending) {
-        Ok(pending) => pending,
-        Err(lack) => {
-            drop(command);
-            return Err(lack);
-        },
-    };
-    let answers = pending.answers.as_slice();
-    match expand_words(alloc, command.get(), answers, vars, files) {
-        Ok(Step::Need(program)) => Ok(Expanded::Need {
+    match expand_words(alloc, command.get(), pending, vars, files)? {
+        Progress::Need { program, pending } => Ok(Expanded::Need {
             program,
             wants: ToExpand::Words {
                 command,
@@ -141,19 +130,9 @@ pub fn words_turn(
             },
             pending,
         }),
-        Ok(Step::Fields(fields)) => {
-            drop(pending);
+        Progress::Fields(fields) => {
             begin(alloc, command, in_place, status, fields, vars, functions)
         },
-        Ok(Step::Fault(fault)) => {
-            drop(pending);
-            drop(command);
-            fail(alloc, fault)
-        },
-        Err(lack) => {
-            drop(pending);
-            drop(command);
-            Err(lack)
-        },
+        Progress::Fault(fault) => fail(alloc, fault),
     }
 }

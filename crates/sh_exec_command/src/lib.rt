@@ -2,7 +2,6 @@
 //! turn asks of one is told by the shell's next place.
 #![tactic(auto)]
 
-mod answers;
 mod assigning;
 mod cases;
 mod defining;

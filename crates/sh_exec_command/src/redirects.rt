@@ -1,21 +1,21 @@
 //! The redirections of a compound command.
 ghost use Rattle.std.specs.Prelude.{◌≡◌, IfOk, map};
-ghost use Rattle.sh_exec_command.specs.Answers.{expansion_with, result_of};
 ghost use Rattle.sh_exec_command.specs.Expanding.{start_of};
 ghost use Rattle.sh_exec_actions.specs.Preparing.{ahead};
 ghost use Rattle.sh_exec_command.specs.Redirects.{compound_role, redirected, redirects_by, redirects_turn, role_in, role_of_command};
 ghost use Rattle.sh_exec_parts.specs.Simple.{compound_redirects, redirect_wanted};
+ghost use Rattle.sh_expand.specs.Answers.{fields_in};
+ghost use Rattle.sh_expand.specs.Pendings.{IsKept, result_of};
 ghost use Rattle.sh_syntax.specs.declared.tree.Command.TheViews as view;
 
-use crate::answers::expand;
-use crate::expanding::{fail, start};
+use crate::expanding::fail;
 use sh_base::NoMemory;
 use sh_base::sequence::{Sequence, Text};
 use sh_base::shared::Shared;
 use sh_exec_actions::{Expanded, ExpandedCommand, Pending, Role, ToExpand, go_ahead, no_undo};
 use sh_exec_parts::Queue;
 use sh_exec_parts::compound::{compound_redirects, redirections_of, redirects_wanted};
-use sh_expand::Step;
+use sh_expand::Progress;
 use sh_files::Files;
 use sh_syntax::tree::{Command, CompoundForm};
 use sh_vars::Vars;
@@ -76,16 +76,23 @@ fn redirected(
 fn expand_words(
     alloc: Global,
     command: &Command,
-    answers: &[Text],
+    pending: Option<Pending>,
     vars: &mut Vars,
     files: &Files,
-) -> Result<Step, NoMemory>
-    ensures { IfOk result (λ step.
-        result_of step vars.new ≡ expansion_with files.now
-        (map redirect_wanted (compound_redirects command.now)) vars.old answers.now) }
+) -> Result<Progress, NoMemory>
+    ensures result { IfOk result (λ p.
+        result_of p vars.new ≡ fields_in files.now
+        (start_of vars.old (map redirect_wanted (compound_redirects command.now)) pending)) }
+    ensures kept { IfOk result (λ p.
+        IsKept p (start_of vars.old (map redirect_wanted (compound_redirects command.now)) pending)) }
 {
-    let wanted = redirects_wanted(alloc, compound_redirects(command))?;
-    expand(alloc, wanted, vars, files, answers)
+    match pending {
+        Some(pending) => Ok(pending.resume(alloc, vars, files)?),
+        None => {
+            let wanted = redirects_wanted(alloc, compound_redirects(command))?;
+            Ok(Pending::begin(alloc, wanted, vars, files)?)
+        },
+    }
 }
 
 /// What follows the fields that the words came to.
@@ -118,20 +125,13 @@ pub fn redirects_turn(
         record { environment = vars.new; outcome = e } ≡ redirects_turn files.now vars.old command
         pending) }
 {
-    let pending = start(alloc, vars, pending)?;
-    match expand_words(
-        alloc,
-        command.get(),
-        pending.answers.as_slice(),
-        vars,
-        files,
-    )? {
-        Step::Need(program) => Ok(Expanded::Need {
+    match expand_words(alloc, command.get(), pending, vars, files)? {
+        Progress::Need { program, pending } => Ok(Expanded::Need {
             program,
             wants: ToExpand::Redirects(command),
             pending,
         }),
-        Step::Fields(fields) => begin(alloc, command, fields, vars),
-        Step::Fault(fault) => fail(alloc, fault),
+        Progress::Fields(fields) => begin(alloc, command, fields, vars),
+        Progress::Fault(fault) => fail(alloc, fault),
     }
 }

@@ -1,12 +1,10 @@
 //! The values of a `for`.
 ghost use Rattle.std.specs.Prelude.{◌≡◌, IfOk, map};
-ghost use Rattle.sh_exec_command.specs.Answers.{expansion_with, result_of};
 ghost use Rattle.sh_exec_command.specs.Expanding.{start_of};
 ghost use Rattle.sh_syntax.specs.declared.tree.Command.TheViews as view;
-ghost use Rattle.sh_exec_command.specs.Series.{begun_with, give_by, give_turn, rest_of_series, header_in, header_of, header_turn, series_by, series_turn, values_turn, word_of_series};
+ghost use Rattle.sh_exec_command.specs.Series.{begun_with, give_by, give_turn, rest_of_series, header_in, header_of, header_turn, series_from, series_turn, values_turn, word_of_series};
 
-use crate::answers::expand;
-use crate::expanding::{fail, fatal_message, start};
+use crate::expanding::{expand, fail, fatal_message};
 use sh_base::NoMemory;
 use sh_base::sequence::{Sequence, Text, copies_of};
 use sh_base::shared::Shared;
@@ -14,7 +12,7 @@ use sh_builtin_environment::{may_set, set_variable};
 use sh_exec_actions::{Action, Active, CommandStatus, Expanded, ForLoop, Move, Pending, ToExpand};
 use sh_exec_parts::Queue;
 use sh_exec_parts::message::read_only;
-use sh_expand::{Context, Step, Wanted};
+use sh_expand::{Context, Progress, Wanted};
 use sh_files::Files;
 use sh_syntax::tree::{Command, CompoundForm, CompoundList, Name, Word};
 use sh_vars::Vars;
@@ -116,23 +114,23 @@ pub fn rest_of_series(series: ForLoop, status: CommandStatus) -> Active
 fn expand_words(
     alloc: Global,
     command: Shared<Command>,
-    pending: Pending,
+    pending: Option<Pending>,
     series: ForLoop,
     wanted: Sequence<Wanted>,
     vars: &mut Vars,
     files: &Files,
 ) -> Result<Expanded, NoMemory>
     ensures { IfOk result (λ e.
-        record { environment = vars.new; outcome = e } ≡ series_by command pending series.name
-        series.body (expansion_with files.now wanted vars.old pending.answers)) }
+        record { environment = vars.new; outcome = e } ≡ series_from files.now command series.name
+        series.body (start_of vars.old wanted pending)) }
 {
-    match expand(alloc, wanted, vars, files, pending.answers.as_slice())? {
-        Step::Need(program) => Ok(Expanded::Need {
+    match expand(alloc, wanted, pending, vars, files)? {
+        Progress::Need { program, pending } => Ok(Expanded::Need {
             program,
             wants: ToExpand::ForWords(command),
             pending,
         }),
-        Step::Fields(fields) => {
+        Progress::Fields(fields) => {
             let ForLoop { name, body, .. } = series;
             let series = ForLoop {
                 name,
@@ -141,11 +139,11 @@ fn expand_words(
             };
             Ok(Expanded::Go(Move::At(rest_of_series(series, CommandStatus::unexcused(0)))))
         },
-        Step::Fault(fault) => fail(alloc, fault),
+        Progress::Fault(fault) => fail(alloc, fault),
     }
 }
 
-/// The turn of the words of a `for` (XCU 2.9.4.2), from the first one on, with the answers so far; without `in` its values are the
+/// The turn of the words of a `for` (XCU 2.9.4.2), with the answers so far; without `in` its values are the
 /// positional parameters. The only error is want of memory; what the variables are then is left open.
 #[tactic(auto, unfolding(crate::specs::Series::series_turn))]
 pub fn series_turn(
@@ -164,7 +162,6 @@ pub fn series_turn(
     };
     match values {
         Values::Words(wanted) => {
-            let pending = start(alloc, vars, pending)?;
             let series = ForLoop {
                 name,
                 values: Queue::new(Sequence::new(alloc)),

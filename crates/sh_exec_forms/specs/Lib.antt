@@ -21,8 +21,8 @@ pub use Rattle.sh_exec_entering.specs.Moves
 pub use Rattle.sh_exec_entering.specs.Running
 pub use Rattle.sh_exec_entering.specs.Stacks
 pub use Rattle.sh_exec_requests.specs.Asking
-pub use Rattle.sh_exec_requests.specs.Continuing
-pub use Rattle.sh_exec_requests.specs.LineReading
+pub use Rattle.sh_exec_requests.specs.JobWaits
+pub use Rattle.sh_exec_requests.specs.ReadLimit
 pub use Rattle.sh_exec_requests.specs.Placed
 pub use Rattle.sh_exec_requests.specs.Prompting
 pub use Rattle.sh_exec_requests.specs.Signals

@@ -8,6 +8,7 @@ use crate::simple::Assignment;
 use sh_base::NoMemory;
 use sh_base::sequence::Text;
 use sh_base::shared::Shared;
+use sh_expand::Pending;
 use sh_syntax::tree::{Connected, ElseIf, ListItem};
 use std::alloc::Global;
 
@@ -71,6 +72,12 @@ impl Copying for ElseIf {
 impl Copying for Rest {
     fn copy(&self, alloc: Global) -> Result<Rest, NoMemory> {
         Ok(Rest::new(Text::copy_of(alloc, self.as_slice())?))
+    }
+}
+
+impl Copying for Pending {
+    fn copy(&self, alloc: Global) -> Result<Pending, NoMemory> {
+        Ok(self.copy(alloc)?)
     }
 }
 

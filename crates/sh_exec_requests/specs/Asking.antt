@@ -1,5 +1,5 @@
 -- What a shell asks of the kernel for a built-in (XCU read, wait, kill, bg, fg), and what follows the answer.
-use Rattle.std.specs.Prelude.{ℕ, List, [], ◌∷◌, Option, Some, None, option_map}
+use Rattle.std.specs.Prelude.{ℕ, List, [], ◌∷◌, Ok, Option, Some, None, option_map}
 use Rattle.sh_builtin.specs.Answer.{Answer}
 use Rattle.sh_builtin.specs.Answer.TheVariants.{Bytes, Ended, Caught, Sent, Continued}
 use Rattle.sh_builtin.specs.BuiltIns.{BuiltIn}
@@ -21,7 +21,7 @@ use Rattle.sh_exec_machine.specs.Transfers.{take_bytes}
 use Rattle.sh_exec_machine.specs.Waits.{wait_status}
 use Rattle.sh_exec_machine.specs.declared.transfer.ReadOutcome.{ReadOutcome}
 use Rattle.sh_exec_machine.specs.declared.transfer.ReadOutcome.TheVariants as taken
-use Rattle.sh_exec_requests.specs.LineReading.{most_read}
+use Rattle.sh_exec_requests.specs.ReadLimit.{most_read}
 use Rattle.sh_exec_requests.specs.Placed.{Placed, at_place}
 use Rattle.sh_exec_requests.specs.Reporting.{behind}
 use Rattle.sh_exec_requests.specs.Signals.{after_sending, is_reached, pending_signal}
@@ -29,7 +29,6 @@ use Rattle.sh_kernel.specs.Calls.{after_set_foreground}
 use Rattle.sh_kernel.specs.State.{KernelState}
 use Rattle.sh_kernel_descriptors.specs.declared.descriptor.DescriptorRef.TheVariants.{Number}
 use Rattle.sh_kernel_signals.specs.declared.target.SignalTarget.TheVariants.{Group}
-use Rattle.std.specs.Prelude.{Ok}
 use Rattle.sh_signal.specs.declared.signal.Signal.{Signal}
 use Rattle.sh_signal.specs.declared.signal.Signal.TheVariants.{Continue}
 

@@ -1,6 +1,6 @@
 pub mod Asking
-pub mod Continuing
-pub mod LineReading
+pub mod JobWaits
+pub mod ReadLimit
 pub mod Placed
 pub mod Prompting
 pub mod Reporting

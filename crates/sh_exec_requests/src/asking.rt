@@ -8,7 +8,7 @@ ghost use Rattle.sh_builtin.specs.Resuming.{resumed};
 ghost use Rattle.sh_kernel.specs.Calls.{after_set_foreground};
 ghost use Rattle.sh_kernel.specs.State.{KernelState, StandsAt};
 
-use crate::line::most_read;
+use crate::read_limit::most_read;
 use crate::reporting::behind;
 use crate::signals::{is_reached, pending_signal, send, send_to};
 use sh_base::NoMemory;

@@ -3,18 +3,18 @@
 #![tactic(auto)]
 
 mod asking;
-mod continuing;
-mod line;
+mod job_wait;
 mod prompting;
+mod read_limit;
 mod reporting;
 mod signals;
 mod waiting;
 mod writing;
 
 pub use asking::ask_turn;
-pub use continuing::job_wait_turn;
-pub use line::most_read;
+pub use job_wait::job_wait_turn;
 pub use prompting::{input_action, prompt_turn};
+pub use read_limit::most_read;
 pub use reporting::behind;
 pub use sh_builtin::invoke;
 pub use signals::{

@@ -51,14 +51,7 @@ fn with_substitution(wants: ToExpand, status: u8) -> ToExpand
 fn with_answer(pending: Pending, answer: Text) -> Result<Pending, NoMemory>
     ensures { IfOk result (λ next. next ≡ with_next_answer pending answer) }
 {
-    let mut pending = pending;
-    match pending.answers.push(answer) {
-        Ok(()) => Ok(pending),
-        Err(error) => {
-            drop(pending);
-            Err(NoMemory::from(error))
-        },
-    }
+    Ok(pending.answer(answer)?)
 }
 
 /// The turn of waiting for the process of a command substitution (XCU 2.6.3): once it has ended the expansion goes on, with what it has

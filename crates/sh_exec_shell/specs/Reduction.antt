@@ -15,7 +15,7 @@ use Rattle.sh_exec_turns.specs.Acting.{collect_turn, defined, end_turn, ending, 
 use Rattle.sh_exec_turns.specs.Asking.{ask_turn}
 use Rattle.sh_exec_turns.specs.Placed.{Placed}
 use Rattle.sh_exec_turns.specs.Prompting.{prompt_turn}
-use Rattle.sh_exec_turns.specs.Continuing.{job_wait_turn}
+use Rattle.sh_exec_turns.specs.JobWaits.{job_wait_turn}
 use Rattle.sh_exec_turns.specs.Signals.{after_drop}
 use Rattle.sh_exec_turns.specs.Waiting.{answer_turn, wait_turn}
 use Rattle.sh_exec_turns.specs.Input.{input_turn}

@@ -25,7 +25,7 @@ use Rattle.sh_exec_actions.specs.Statuses.{unexcused}
 use Rattle.sh_exec_actions.specs.declared.action.Active.{Active}
 use Rattle.sh_exec_actions.specs.declared.action.Active.TheVariants.{Next, Done}
 use Rattle.sh_exec_actions.specs.declared.action.Finish.{Finish}
-use Rattle.sh_exec_actions.specs.declared.action.Pending.{Pending}
+use Rattle.sh_exec_actions.specs.Answers.{Pending}
 use Rattle.sh_exec_actions.specs.declared.action.Action.{Action}
 use Rattle.sh_exec_actions.specs.declared.action.Action.TheVariants.{WaitSubstitution, ReadSubstitution, Ending, Trapping, Writing}
 use Rattle.sh_exec_actions.specs.declared.action.ExpandedCommand.{ExpandedCommand}

@@ -19,7 +19,7 @@ use Rattle.sh_exec_forms.specs.Running.{Run, At, In}
 use Rattle.sh_exec_machine.specs.Transfers.{take_bytes}
 use Rattle.sh_exec_machine.specs.declared.transfer.ReadOutcome.{ReadOutcome}
 use Rattle.sh_exec_machine.specs.declared.transfer.ReadOutcome.TheVariants as taken
-use Rattle.sh_exec_forms.specs.LineReading.{most_read}
+use Rattle.sh_exec_forms.specs.ReadLimit.{most_read}
 use Rattle.sh_exec_forms.specs.Prompting.{input_action}
 use Rattle.sh_exec_turns.specs.Acting.{after_refusal}
 use Rattle.sh_kernel.specs.State.{KernelState}

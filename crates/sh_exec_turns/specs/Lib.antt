@@ -6,14 +6,14 @@ pub use Rattle.sh_exec_forms.specs.Asking
 pub use Rattle.sh_exec_forms.specs.Bodies
 pub use Rattle.sh_exec_forms.specs.Builtins
 pub use Rattle.sh_exec_forms.specs.Codes
-pub use Rattle.sh_exec_forms.specs.Continuing
+pub use Rattle.sh_exec_forms.specs.JobWaits
 pub use Rattle.sh_exec_forms.specs.Entering
 pub use Rattle.sh_exec_forms.specs.Expanding
 pub use Rattle.sh_exec_forms.specs.Forms
 pub use Rattle.sh_exec_forms.specs.Frames
 pub use Rattle.sh_exec_forms.specs.JobTexts
 pub use Rattle.sh_exec_forms.specs.Leave
-pub use Rattle.sh_exec_forms.specs.LineReading
+pub use Rattle.sh_exec_forms.specs.ReadLimit
 pub use Rattle.sh_exec_forms.specs.Moves
 pub use Rattle.sh_exec_forms.specs.Outcomes
 pub use Rattle.sh_exec_forms.specs.Placed

@@ -3,3 +3,4 @@ pub mod Begins
 pub mod Forms
 pub mod Steps
 pub mod Turns
+pub mod Waiting

@@ -1,3 +1,6 @@
+pub mod Answers
+pub mod Pendings
+pub mod Waiting
 pub mod Expanding
 pub mod Fields
 pub mod FieldProgress

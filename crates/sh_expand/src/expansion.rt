@@ -73,7 +73,9 @@ impl Expansion {
         vars: &mut Vars,
         files: &Files,
     ) -> Result<(Expansion, Step), AllocError>
-        ensures { IfOk result (λ r. IsStep files.now r.1 r.0 vars.new (inputs words vars.old [])) }
+        ensures step { IfOk result (λ r.
+            IsStep files.now r.1 r.0 vars.new (inputs words vars.old [])) }
+        ensures words { IfOk result (λ r. r.0.words.words ≡ words) }
     {
         let (words, step) = WordExpansion::start(alloc, words, vars)?;
         let step = finish(alloc, step, &words, vars, files)?;
@@ -91,13 +93,23 @@ impl Expansion {
         vars: &mut Vars,
         files: &Files,
     ) -> Result<Step, AllocError>
-        ensures { (wanted : List Wanted) (before : Environment) (given : List (List ℕ))
+        ensures step { (wanted : List Wanted) (before : Environment) (given : List (List ℕ))
             → Waits self.old vars.old wanted before given → IfOk result (λ s.
             IsStep files.now s self.new vars.new (inputs wanted before (given ++ answer.now ∷ []))) }
+        ensures words { IfOk result (λ s. self.new.words.words ≡ self.old.words.words) }
     {
         let step = self.words.resume(alloc, answer, vars)?;
         let step = finish(alloc, step, &self.words, vars, files)?;
         Ok(step)
+    }
+
+    /// A copy. The only error is want of memory.
+    pub fn copy(&self, alloc: Global) -> Result<Expansion, AllocError>
+        ensures { IfOk result (λ copy. copy ≡ self.now) }
+    {
+        Ok(Expansion {
+            words: self.words.copy(alloc)?,
+        })
     }
 
     /// The first of the expanded words as a pattern (XCU 2.9.4.3, 2.14.1): its quoted bytes are literal. The

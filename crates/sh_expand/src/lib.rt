@@ -10,12 +10,14 @@ mod expansion;
 mod fields;
 mod laws;
 mod part;
+mod pending;
 mod place;
 mod wanted;
 mod words;
 
 pub use expansion::{Expansion, Step};
 pub use laws::parts_do_what_their_forms_say;
+pub use pending::{PatternProgress, Pending, Progress};
 pub use place::Place;
 pub use sh_expand_parts::{ArithmeticError, Context, Fault};
 pub use wanted::Wanted;

@@ -65,6 +65,55 @@ impl Frame {
             last: self.at + 1 == count,
         }
     }
+
+    /// A copy.
+    fn copy(&self, alloc: Global) -> Result<Frame, AllocError>
+        ensures { IfOk result (λ copy. copy ≡ self.now) }
+    {
+        Ok(Frame {
+            parts: self.parts.share()?,
+            at: self.at,
+            context: self.context,
+            purpose: self.purpose.copy(alloc)?,
+            saved: self.saved.copy(alloc)?,
+        })
+    }
+}
+
+/// Copies of words that are to be expanded, in order.
+fn copy_wanted(alloc: Global, words: &[Wanted]) -> Result<Sequence<Wanted>, AllocError>
+    ensures { IfOk result (λ copies. copies ≡ words.now) }
+{
+    let mut copies = Sequence::new(alloc);
+    for word in words {
+        copies.push(Wanted {
+            parts: word.parts.share()?,
+            context: word.context,
+        })?;
+    }
+    Ok(copies)
+}
+
+/// Copies of words that are begun, in order.
+fn copy_frames(alloc: Global, frames: &[Frame]) -> Result<Sequence<Frame>, AllocError>
+    ensures { IfOk result (λ copies. copies ≡ frames.now) }
+{
+    let mut copies = Sequence::new(alloc);
+    for frame in frames {
+        copies.push(frame.copy(alloc)?)?;
+    }
+    Ok(copies)
+}
+
+/// Copies of words that are expanded, in order.
+fn copy_words(alloc: Global, words: &[ExpandedWord]) -> Result<Sequence<ExpandedWord>, AllocError>
+    ensures { IfOk result (λ copies. copies ≡ words.now) }
+{
+    let mut copies = Sequence::new(alloc);
+    for word in words {
+        copies.push(word.copy(alloc)?)?;
+    }
+    Ok(copies)
 }
 
 impl WordExpansion {
@@ -133,6 +182,7 @@ impl WordExpansion {
             (env : Environment) (bs : List (List ℕ)) → outcome_after s self.new env bs
             ≡ rest self.old (Done (state_of self.old env bs))) }
         ensures smaller { IfOk result (λ s. s ≡ None → weight self.new < weight self.old) }
+        ensures words { IfOk result (λ s. self.new.words ≡ self.old.words) }
     {
         let Some(word) = self.words.as_slice().get(self.next) else {
             return Ok(Some(Step::Words));
@@ -151,6 +201,7 @@ impl WordExpansion {
             ≡ rest self.old (outcome_at act (state_of self.old env bs))) }
         ensures smaller { IfOk result (λ s.
             s ≡ None → weight self.new ≡ weight self.old + act_weight act) }
+        ensures words { IfOk result (λ s. self.new.words ≡ self.old.words) }
     {
         match act {
             Act::Went => Ok(None),
@@ -182,6 +233,7 @@ impl WordExpansion {
             (bs : List (List ℕ)) → outcome_after s self.new vars.new bs
             ≡ rest self.old (run_frame frame (state_of self.old vars.old bs))) }
         ensures smaller { IfOk result (λ s. weight self.new ≡ weight self.old) }
+        ensures words { IfOk result (λ s. self.new.words ≡ self.old.words) }
     {
         let Some(fault) = self.end(alloc, vars, frame.purpose, frame.saved)? else {
             return Ok(None);
@@ -202,6 +254,7 @@ impl WordExpansion {
             ≡ rest self.old (run_frame frame (state_of self.old vars.now bs))) }
         ensures smaller { IfOk result (λ s.
             s ≡ None → weight self.new < weight self.old + (1 + parts_weight (left_of frame))) }
+        ensures words { IfOk result (λ s. self.new.words ≡ self.old.words) }
     {
         let place = frame.place();
         let act = begin(
@@ -228,6 +281,7 @@ impl WordExpansion {
             (bs : List (List ℕ)) → outcome_after s self.new vars.new bs
             ≡ rest self.old (Done (state_of self.old vars.old bs))) }
         ensures smaller { IfOk result (λ s. s ≡ None → weight self.new < weight self.old) }
+        ensures words { IfOk result (λ s. self.new.words ≡ self.old.words) }
     {
         let Some(frame) = self.frames.pop() else {
             return self.next_word(alloc);
@@ -242,9 +296,10 @@ impl WordExpansion {
 
     /// Goes on to the next answer that is needed, or to the end.
     fn go(&mut self, alloc: Global, vars: &mut Vars) -> Result<Step, AllocError>
-        ensures { IfOk result (λ s.
+        ensures outcome { IfOk result (λ s.
             (bs : List (List ℕ)) → outcome_of s self.new vars.new bs
             ≡ rest self.old (Done (state_of self.old vars.old bs))) }
+        ensures words { IfOk result (λ s. self.new.words ≡ self.old.words) }
     {
         loop {
             if let Some(step) = self.turn(alloc, vars)? {
@@ -261,7 +316,8 @@ impl WordExpansion {
         words: Sequence<Wanted>,
         vars: &mut Vars,
     ) -> Result<(WordExpansion, Step), AllocError>
-        ensures { IfOk result (λ r. IsStep r.1 r.0 vars.new (inputs words vars.old [])) }
+        ensures step { IfOk result (λ r. IsStep r.1 r.0 vars.new (inputs words vars.old [])) }
+        ensures words { IfOk result (λ r. r.0.words ≡ words) }
     {
         let mut expansion = WordExpansion {
             words,
@@ -285,14 +341,29 @@ impl WordExpansion {
         answer: &[u8],
         vars: &mut Vars,
     ) -> Result<Step, AllocError>
-        ensures { (words : List Wanted) (before : Environment) (given : List (List ℕ))
+        ensures step { (words : List Wanted) (before : Environment) (given : List (List ℕ))
             → Waits self.old vars.old words before given → IfOk result (λ s.
             IsStep s self.new vars.new (inputs words before (given ++ answer.now ∷ []))) }
+        ensures words { IfOk result (λ s. self.new.words ≡ self.old.words) }
     {
         let items = answer_items(alloc, self.asked, answer)?;
         self.draft.append(&items)?;
         let step = self.go(alloc, vars)?;
         Ok(step)
+    }
+
+    /// A copy. The only error is want of memory.
+    pub fn copy(&self, alloc: Global) -> Result<WordExpansion, AllocError>
+        ensures { IfOk result (λ copy. copy ≡ self.now) }
+    {
+        Ok(WordExpansion {
+            words: copy_wanted(alloc, self.words.as_slice())?,
+            next: self.next,
+            frames: copy_frames(alloc, self.frames.as_slice())?,
+            draft: self.draft.copy(alloc)?,
+            done: copy_words(alloc, self.done.as_slice())?,
+            asked: self.asked,
+        })
     }
 
     /// The words that are expanded so far, in their order.

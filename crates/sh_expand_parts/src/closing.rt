@@ -58,6 +58,38 @@ pub enum Purpose {
     },
 }
 
+impl Purpose {
+    /// A copy. The only error is want of memory.
+    pub fn copy(&self, alloc: Global) -> Result<Purpose, AllocError>
+        ensures { IfOk result (λ copy. copy ≡ self.now) }
+    {
+        match self {
+            Purpose::Word { context } => Ok(Purpose::Word { context: *context }),
+            Purpose::Default => Ok(Purpose::Default),
+            Purpose::Quotes => Ok(Purpose::Quotes),
+            Purpose::Assign { name, context } => Ok(Purpose::Assign {
+                name: Text::copy_of(alloc, name.as_slice())?,
+                context: *context,
+            }),
+            Purpose::Report { name } => Ok(Purpose::Report {
+                name: Text::copy_of(alloc, name.as_slice())?,
+            }),
+            Purpose::Remove {
+                value,
+                affix,
+                extent,
+                context,
+            } => Ok(Purpose::Remove {
+                value: value.copy(alloc)?,
+                affix: *affix,
+                extent: *extent,
+                context: *context,
+            }),
+            Purpose::Compute { context } => Ok(Purpose::Compute { context: *context }),
+        }
+    }
+}
+
 /// A word that is expanded up to its items: what is left is field splitting, pathname expansion and quote removal.
 #[derive(Debug, Drop)]
 pub struct ExpandedWord {
@@ -65,6 +97,18 @@ pub struct ExpandedWord {
     pub context: Context,
     /// The items of the word, in order.
     pub items: Sequence<Item>,
+}
+
+impl ExpandedWord {
+    /// A copy. The only error is want of memory.
+    pub fn copy(&self, alloc: Global) -> Result<ExpandedWord, AllocError>
+        ensures { IfOk result (λ copy. copy ≡ self.now) }
+    {
+        Ok(ExpandedWord {
+            context: self.context,
+            items: Sequence::copy_of(alloc, self.items.as_slice())?,
+        })
+    }
 }
 
 /// The result of a word once it is expanded.

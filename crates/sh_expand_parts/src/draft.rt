@@ -33,6 +33,16 @@ impl Draft {
         }
     }
 
+    /// A copy. The only error is want of memory.
+    pub fn copy(&self, alloc: Global) -> Result<Draft, AllocError>
+        ensures { IfOk result (λ copy. copy ≡ self.now) }
+    {
+        Ok(Draft {
+            items: Sequence::copy_of(alloc, self.items.as_slice())?,
+            void: self.void,
+        })
+    }
+
     /// A draft of these items.
     pub(crate) fn plain(items: Sequence<Item>) -> Draft
         ensures { result ≡ plain items }

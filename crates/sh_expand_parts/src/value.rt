@@ -109,6 +109,24 @@ impl Value {
             Parameter::Special(parameter) => special(alloc, vars, *parameter),
         }
     }
+
+    /// A copy. The only error is want of memory.
+    pub fn copy(&self, alloc: Global) -> Result<Value, AllocError>
+        ensures { IfOk result (λ copy. copy ≡ self.now) }
+    {
+        match self {
+            Value::Unset => Ok(Value::Unset),
+            Value::Scalar(text) => Ok(Value::Scalar(Text::copy_of(alloc, text.as_slice())?)),
+            Value::Each(texts) => Ok(Value::Each(Sequence::from_vec(copies_of(
+                alloc,
+                texts.as_slice(),
+            )?))),
+            Value::Joined(texts) => Ok(Value::Joined(Sequence::from_vec(copies_of(
+                alloc,
+                texts.as_slice(),
+            )?))),
+        }
+    }
 }
 
 /// How a special parameter is written after the `$`.

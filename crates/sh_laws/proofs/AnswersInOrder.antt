@@ -7,7 +7,7 @@ use Rattle.sh_expand.specs.Expanding.{expand, result_of}
 use Rattle.sh_expand.specs.Expansion as words
 use Rattle.sh_expand.specs.Parts as words_in
 use Rattle.sh_expand.specs.declared.wanted.Wanted.{Wanted}
-use Rattle.sh_exec_command.specs.Answers.{expansion_with, resumption, words_after, words_with}
+use Rattle.sh_expand.specs.Answers.{expansion_with, resumption, words_after, words_with}
 use Rattle.sh_laws.specs.Answers.{Stays}
 use Rattle.sh_laws.proofs.FurtherAnswers.{Grown}
 use Rattle.sh_laws.proofs.AnsweredParts.{expansion_grows}

@@ -52,7 +52,7 @@ stages_stand first (next ∷ others) c cs s =
 
 pub redirected_stands : (redirects : List Redirect) (run : Run) (whole : Command) → CommandBegins whole → RunStands run → RunStands (redirected redirects run whole)
 redirected_stands [] run whole w s = s
-redirected_stands (redirect ∷ redirects) run whole w s = w
+redirected_stands (redirect ∷ redirects) run whole w s = (w, tt)
 
 unless_stands : (b : Bool) (redirects : List Redirect) (run : Run) (whole : Command) → CommandBegins whole → RunStands run → RunStands (unless_subshell b redirects run whole)
 unless_stands true redirects run whole w s = s
@@ -116,13 +116,13 @@ mutual
       (subst RunStands (sym (loop_entered kind condition body whole)) ((c, b), list_stands condition c))
   form_stands x (in_for _ name words body e s b) whole w =
       subst (λ z. RunStands (form_entry z whole)) (sym (sym (view.roll-out-CompoundForm x) ∙ ap view.roll-CompoundForm e ∙ form.rolls-For name words body))
-      (subst RunStands (sym (for_entered name words body whole)) w)
+      (subst RunStands (sym (for_entered name words body whole)) (w, tt))
   form_stands x (in_for_parameters _ name is_separated body e b) whole w =
       subst (λ z. RunStands (form_entry z whole)) (sym (sym (view.roll-out-CompoundForm x) ∙ ap view.roll-CompoundForm e ∙ form.rolls-ForParameters name is_separated body))
-      (subst RunStands (sym (for_parameters_entered name is_separated body whole)) w)
+      (subst RunStands (sym (for_parameters_entered name is_separated body whole)) (w, tt))
   form_stands x (in_case _ word items e p i) whole w =
       subst (λ z. RunStands (form_entry z whole)) (sym (sym (view.roll-out-CompoundForm x) ∙ ap view.roll-CompoundForm e ∙ form.rolls-Case word items))
-      (subst RunStands (sym (case_entered word items whole)) w)
+      (subst RunStands (sym (case_entered word items whole)) (w, tt))
 
 pub item_stands : (x : ListItem) → AndOrBegins (view.out-ListItem x).list → RunStands (item_run x)
 item_stands x a = as_item x a (and_or_stands (view.out-ListItem x).list a)

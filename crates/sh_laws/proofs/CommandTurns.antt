@@ -3,18 +3,18 @@ use Rattle.std.proofs.Common.{◌≡◌, ℕ, zero, suc, List, [], ◌∷◌, �
 use Rattle.std.specs.Prelude.{Result, Ok, Err, if◌then◌else◌}
 use Rattle.std.specs.List.{find, list_any}
 use Rattle.std.specs.Option.{unwrap_or}
-use Rattle.sh_exec_command.specs.Answers.{Fails, Needs, Pattern, Patterned, expansion_with, pattern_of, pattern_with, resumption, single, words_after, words_with}
+use Rattle.sh_expand.specs.Answers.{Fails, Needs, Pattern, Patterned, Pending, expansion_with, fields_in, pattern_from, pattern_of, pattern_with, resumption, words_after, words_with}
 use Rattle.sh_builtin_environment.specs.Variables.{may_set}
-use Rattle.sh_exec_command.specs.Assigning.{Step, assign_turn, assigned_by, assigned_one, assignments_turn, behind, text_of, value_of, value_step, value_wanted}
+use Rattle.sh_exec_command.specs.Assigning.{Step, assign_turn, assigned_by, assigned_one, assignments_turn, behind, text_of, value_start, value_step, value_wanted}
 use Rattle.sh_exec_command.specs.Cases as cases
-use Rattle.sh_exec_command.specs.Cases.{branch_of, branch_turn, branches_of, case_turn, next_branch, pattern_by, pattern_turn, tried, word_by}
+use Rattle.sh_exec_command.specs.Cases.{branch_of, branch_turn, branches_of, case_turn, next_branch, pattern_by, pattern_turn, single, tried, word_by, word_from}
 use Rattle.sh_exec_command.specs.Expanding.{Turn, fatal, start_of, words_by, words_turn}
 use Rattle.sh_exec_actions.specs.Preparing.{ahead, ahead_by, exec_role, final_move, first_move, first_place, forks, nameless, not_done, performed_by, prepared_of, command_role, role_behind, role_by, role_of, role_run}
 use Rattle.sh_exec_command.specs.Redirects.{compound_role, redirected, redirects_by, redirects_turn, role_in, role_of_command}
 use Rattle.sh_exec_command.specs.Reading.{answer_of, found_behind, found_by, input_by, input_found, next_command}
 use Rattle.sh_exec_command.specs.declared.found.InputFound.{InputFound}
 use Rattle.sh_exec_command.specs.declared.found.InputFound.TheVariants as input
-use Rattle.sh_exec_command.specs.Series.{Given, give_by, give_turn, given_by, header_in, header_of, header_of_command, header_turn, rest_of_series, series_by, series_turn, word_of_series}
+use Rattle.sh_exec_command.specs.Series.{Given, give_by, give_turn, given_by, header_in, header_of, header_of_command, header_turn, rest_of_series, series_by, series_from, series_turn, word_of_series}
 use Rattle.sh_exec_command.specs.declared.found.Found.{Found}
 use Rattle.sh_exec_actions.specs.Statuses.{unexcused}
 use Rattle.sh_exec_actions.specs.declared.status.CommandStatus.{CommandStatus}
@@ -24,7 +24,6 @@ use Rattle.sh_exec_actions.specs.declared.action.Expanded.{Expanded}
 use Rattle.sh_exec_actions.specs.declared.action.Expanded.TheVariants as expanded
 use Rattle.sh_exec_actions.specs.declared.action.Move.{Move}
 use Rattle.sh_exec_actions.specs.declared.action.Move.TheVariants as move
-use Rattle.sh_exec_actions.specs.declared.action.Pending.{Pending}
 use Rattle.sh_exec_actions.specs.declared.action.Action.TheVariants.{Forking}
 use Rattle.sh_exec_actions.specs.declared.action.ExpandedCommand.{ExpandedCommand}
 use Rattle.sh_exec_actions.specs.declared.action.Role.{Role}
@@ -72,9 +71,9 @@ use Rattle.sh_syntax.specs.declared.tree.Redirect.{Redirect}
 use Rattle.sh_syntax.specs.declared.tree.SimpleItem.{SimpleItem}
 use Rattle.sh_syntax.specs.declared.tree.Word.{Word}
 use Rattle.sh_vars.specs.Environment.{Environment, with_value}
-use Rattle.sh_laws.proofs.NeededPrograms.{ItsItems, OutcomeBegins, ResultBegins, WantedBegin, expansion_begins, result_begins, target_begins, wanted_begin}
+use Rattle.sh_laws.proofs.NeededPrograms.{ItsItems, OutcomeBegins, ResultBegins, expansion_begins, result_begins, target_begins, wanted_begin}
 use Rattle.sh_laws.specs.Beginnings.{CaseItemsBegin, CommandBegins, FormBegins, ItemsBegin, ListBegins, PartsBegin, RedirectsBegin, SeriesBegin, WordsBegin, begins_list, by_definition, by_form, by_words, in_case, in_for, in_for_parameters, in_group, in_if, in_loop, in_subshell, item_parts, more_case_items, more_redirects, more_series, more_words, no_case_items, no_redirects, no_series, no_words, word_parts}
-use Rattle.sh_laws.specs.BeforeAction.{AssignmentsHold, BranchesHold, FoundBegins, FunctionsHold, PlaceHolds, RoleHolds, WantsHold}
+use Rattle.sh_laws.specs.BeforeAction.{AssignmentsHold, BranchesHold, FoundBegins, FunctionsHold, PendingHolds, PlaceHolds, RoleHolds, WantedBegin, WantsHold}
 use Rattle.sh_laws.proofs.BegunReadings.{AnswerFits, reading_fits}
 
 -- ---- what is held at a place, by a move, by what an expansion comes to
@@ -94,7 +93,7 @@ MoveHolds (move.Compound undo command) = CommandBegins command
 MoveHolds (move.Subshell list) = ItemsBegin (view.out-CompoundList list).items
 
 abbrev pub ExpandedHolds : Expanded → Type 0
-ExpandedHolds (expanded.Need program wants pending) = ItsItems program × WantsHold wants
+ExpandedHolds (expanded.Need program wants pending) = ItsItems program × (WantsHold wants × WantedBegin pending.words)
 ExpandedHolds (expanded.Go move) = MoveHolds move
 
 abbrev pub TurnHolds : Turn → Type 0
@@ -124,7 +123,7 @@ wants_hold false in_place command c = (tt, assignments_hold (items_of command) (
 
 pub first_holds : (in_place : Bool) (command : Command) → CommandBegins command → PlaceHolds (first_place in_place command)
 unfolding first_place
-first_holds in_place command c = wants_hold (list_any is_word (items_of command) || list_any is_redirect (items_of command)) in_place command c
+first_holds in_place command c = (wants_hold (list_any is_word (items_of command) || list_any is_redirect (items_of command)) in_place command c, tt)
 
 -- ---- what it does after its expansion
 performed_holds : (p : ExpandedCommand) (r : Role) → RoleHolds r → MoveHolds (performed_by p r)
@@ -146,7 +145,7 @@ CommandHolds p = RoleHolds p.role × AssignmentsHold p.assignments
 
 ahead_by_holds : (p : ExpandedCommand) (redirections : List Redirection) (assignments : List Assignment) → CommandHolds p → MoveHolds (ahead_by p redirections assignments)
 ahead_by_holds p (redirection ∷ redirections) assignments h = h
-ahead_by_holds p [] (assignment ∷ assignments) h = h
+ahead_by_holds p [] (assignment ∷ assignments) h = (h, tt)
 ahead_by_holds p [] [] h = final_holds p h.0
 
 pub ahead_holds : (p : ExpandedCommand) → CommandHolds p → MoveHolds (ahead p)
@@ -189,6 +188,14 @@ outcome_begins ws env answers b = after_begins ws env [] answers b
 answers_begin : (files : FileMap) (ws : List Wanted) (env : Environment) (answers : List (List ℕ)) → WantedBegin ws → ResultBegins (expansion_with files ws env answers)
 unfolding expansion_with
 answers_begin files ws env answers b = result_begins files (words_with ws env answers) (outcome_begins ws env answers b)
+
+-- ---- the expansion that waits, or that begins
+start_begins : (env : Environment) (words : List Wanted) (pending : Option Pending) → WantedBegin words → PendingHolds pending → WantedBegin (start_of env words pending).words
+start_begins env words None b h = b
+start_begins env words (Some pending) b h = h
+
+fields_begin : (files : FileMap) (p : Pending) → WantedBegin p.words → ResultBegins (fields_in files p)
+fields_begin files p b = answers_begin files p.words p.start p.answers b
 
 -- ---- to a pattern
 abbrev PatternedBegins : Patterned → Type 0
@@ -270,19 +277,19 @@ prepared_holds env functions command fields status h b =
     let words = word_fields fields (length (redirects_of items)) in (role_run_holds functions words (behind_command functions words) h, assignments_hold items b)
 
 words_by_hold : (functions : List Named) (command : Command) (in_place : Bool) (status : ℕ) (pending : Pending) (r : expanding.Result) → FunctionsHold functions → CommandBegins command
-    → ResultBegins r → TurnHolds (words_by functions command in_place status pending r)
-words_by_hold functions command in_place status pending (expanding.Need program env) h c b = (b, c)
-words_by_hold functions command in_place status pending (expanding.Fields fields env) h c b =
+    → WantedBegin pending.words → ResultBegins r → TurnHolds (words_by functions command in_place status pending r)
+words_by_hold functions command in_place status pending (expanding.Need program env) h c w b = (b, (c, w))
+words_by_hold functions command in_place status pending (expanding.Fields fields env) h c w b =
     first_move_holds in_place (prepared_of env functions command fields status) (prepared_holds env functions command fields status h (items_begin command c))
-words_by_hold functions command in_place status pending (expanding.Stops fault env) h c b = tt
+words_by_hold functions command in_place status pending (expanding.Stops fault env) h c w b = tt
 
 pub words_hold : (files : FileMap) (env : Environment) (functions : List Named) (command : Command) (in_place : Bool) (status : ℕ) (pending : Option Pending) → FunctionsHold functions
-    → CommandBegins command → TurnHolds (words_turn files env functions command in_place status pending)
+    → CommandBegins command → PendingHolds pending → TurnHolds (words_turn files env functions command in_place status pending)
 unfolding words_turn
-words_hold files env functions command in_place status pending h c =
-    let p = start_of env pending in
-    words_by_hold functions command in_place status p (expansion_with files (wanted_of (items_of command)) p.start p.answers) h c
-    (answers_begin files (wanted_of (items_of command)) p.start p.answers (wanted_begin (items_of command) (items_begin command c)))
+words_hold files env functions command in_place status pending h c k =
+    let p = start_of env (wanted_of (items_of command)) pending in
+    let w = start_begins env (wanted_of (items_of command)) pending (wanted_begin (items_of command) (items_begin command c)) k in
+    words_by_hold functions command in_place status p (fields_in files p) h c w (fields_begin files p w)
 
 -- ---- one of two
 pub choose : {A : Type 0} (P : A → Type 0) (b : Bool) (x y : A) → (b ≡ true → P x) → (b ≡ false → P y) → P (if b then x else y)
@@ -301,28 +308,29 @@ unfolding value_step
 value_holds next p env name value n r = choose (StepHolds next) (may_set env name) _ _ (λ e. record { holds = n _ _ r }) (λ e. record { holds = tt })
 
 assigned_by_holds : (next : Environment → ExpandedCommand → Turn) (p : ExpandedCommand) (assignment : Assignment) (pending : Pending) (r : expanding.Result) → Goes next → RoleHolds p.role
-    → AssignmentsHold (assignment ∷ p.assignments) → ResultBegins r → StepHolds next (assigned_by p assignment pending r)
-assigned_by_holds next p assignment pending (expanding.Need program env) n r h b = record { holds = (b, (r, h)) }
-assigned_by_holds next p assignment pending (expanding.Fields fields env) n r h b = value_holds next p env assignment.name (text_of fields) n r
-assigned_by_holds next p assignment pending (expanding.Stops fault env) n r h b = record { holds = tt }
+    → AssignmentsHold (assignment ∷ p.assignments) → WantedBegin pending.words → ResultBegins r → StepHolds next (assigned_by p assignment pending r)
+assigned_by_holds next p assignment pending (expanding.Need program env) n r h w b = record { holds = (b, ((r, h), w)) }
+assigned_by_holds next p assignment pending (expanding.Fields fields env) n r h w b = value_holds next p env assignment.name (text_of fields) n r
+assigned_by_holds next p assignment pending (expanding.Stops fault env) n r h w b = record { holds = tt }
 
 assigned_holds : (next : Environment → ExpandedCommand → Turn) (files : FileMap) (env : Environment) (p : ExpandedCommand) (assignment : Assignment) (pending : Option Pending) → Goes next
-    → RoleHolds p.role → AssignmentsHold (assignment ∷ p.assignments) → StepHolds next (assigned_one files env p assignment pending)
+    → RoleHolds p.role → AssignmentsHold (assignment ∷ p.assignments) → PendingHolds pending → StepHolds next (assigned_one files env p assignment pending)
 unfolding assigned_one
-assigned_holds next files env p assignment pending n r h =
-    let s = start_of env pending in
-    assigned_by_holds next p assignment s (value_of files s assignment) n r h (answers_begin files (value_wanted assignment.value ∷ []) s.start s.answers (h.0, tt))
+assigned_holds next files env p assignment pending n r h k =
+    let s = value_start env assignment pending in
+    let w = start_begins env (value_wanted assignment.value ∷ []) pending (h.0, tt) k in
+    assigned_by_holds next p assignment s (fields_in files s) n r h w (fields_begin files s w)
 
 assignments_turn_holds : (files : FileMap) (these : List Assignment) (env : Environment) (p : ExpandedCommand) (pending : Option Pending) → RoleHolds p.role → AssignmentsHold these
-    → TurnHolds (assignments_turn files these env p pending)
-assignments_turn_holds files [] env p pending r h = final_holds p r
-assignments_turn_holds files (assignment ∷ others) env p pending r h =
+    → PendingHolds pending → TurnHolds (assignments_turn files these env p pending)
+assignments_turn_holds files [] env p pending r h k = final_holds p r
+assignments_turn_holds files (assignment ∷ others) env p pending r h k =
     (assigned_holds (λ after command. assignments_turn files others after command None) files env (record p { assignments = others }) assignment pending
-    (λ after command s. assignments_turn_holds files others after command None s h.1) r h).holds
+    (λ after command s. assignments_turn_holds files others after command None s h.1 tt) r h k).holds
 
-pub assign_holds : (files : FileMap) (env : Environment) (p : ExpandedCommand) (pending : Option Pending) → CommandHolds p → TurnHolds (assign_turn files env p pending)
+pub assign_holds : (files : FileMap) (env : Environment) (p : ExpandedCommand) (pending : Option Pending) → CommandHolds p → PendingHolds pending → TurnHolds (assign_turn files env p pending)
 unfolding assign_turn
-assign_holds files env p pending h = assignments_turn_holds files p.assignments env p pending h.0 h.1
+assign_holds files env p pending h k = assignments_turn_holds files p.assignments env p pending h.0 h.1 k
 
 -- ---- the turn of the redirections of a compound command
 redirect_wants_begin : (redirects : List Redirect) → RedirectsBegin redirects → WantedBegin (map redirect_wanted redirects)
@@ -355,18 +363,18 @@ redirected_holds : (env : Environment) (command : Command) (fields : List (List 
 unfolding redirected compound_role
 redirected_holds env command fields c = (role_of_command_holds command c c, tt)
 
-redirects_by_hold : (command : Command) (pending : Pending) (r : expanding.Result) → CommandBegins command → ResultBegins r → TurnHolds (redirects_by command pending r)
-redirects_by_hold command pending (expanding.Need program env) c b = (b, c)
-redirects_by_hold command pending (expanding.Fields fields env) c b = ahead_holds (redirected env command fields) (redirected_holds env command fields c)
-redirects_by_hold command pending (expanding.Stops fault env) c b = tt
+redirects_by_hold : (command : Command) (pending : Pending) (r : expanding.Result) → CommandBegins command → WantedBegin pending.words → ResultBegins r → TurnHolds (redirects_by command pending r)
+redirects_by_hold command pending (expanding.Need program env) c w b = (b, (c, w))
+redirects_by_hold command pending (expanding.Fields fields env) c w b = ahead_holds (redirected env command fields) (redirected_holds env command fields c)
+redirects_by_hold command pending (expanding.Stops fault env) c w b = tt
 
-pub redirects_hold : (files : FileMap) (env : Environment) (command : Command) (pending : Option Pending) → CommandBegins command → TurnHolds (redirects_turn files env command pending)
+pub redirects_hold : (files : FileMap) (env : Environment) (command : Command) (pending : Option Pending) → CommandBegins command → PendingHolds pending → TurnHolds (redirects_turn files env command pending)
 unfolding redirects_turn
-redirects_hold files env command pending c =
-    let p = start_of env pending in
+redirects_hold files env command pending c k =
     let wanted = map redirect_wanted (compound_redirects command) in
-    redirects_by_hold command p (expansion_with files wanted p.start p.answers) c
-    (answers_begin files wanted p.start p.answers (redirect_wants_begin (compound_redirects command) (compound_redirects_begin command c)))
+    let p = start_of env wanted pending in
+    let w = start_begins env wanted pending (redirect_wants_begin (compound_redirects command) (compound_redirects_begin command c)) k in
+    redirects_by_hold command p (fields_in files p) c w (fields_begin files p w)
 
 -- ---- a `for`
 series_begin : (words : List Word) → SeriesBegin words → WantedBegin (map word_of_series words)
@@ -380,18 +388,18 @@ given_by_holds series (value ∷ left) status b = b
 pub rest_holds : (series : ForLoop) (status : CommandStatus) → ListBegins series.body → ActiveHolds (rest_of_series series status)
 rest_holds series status b = given_by_holds series series.values status b
 
-series_by_holds : (command : Command) (pending : Pending) (name : List ℕ) (body : CompoundList) (r : expanding.Result) → CommandBegins command → ListBegins body → ResultBegins r
-    → TurnHolds (series_by command pending name body r)
-series_by_holds command pending name body (expanding.Need program env) c l b = (b, c)
-series_by_holds command pending name body (expanding.Fields fields env) c l b = rest_holds (record { name = name; values = fields; body = body }) (unexcused 0) l
-series_by_holds command pending name body (expanding.Stops fault env) c l b = tt
+series_by_holds : (command : Command) (pending : Pending) (name : List ℕ) (body : CompoundList) (r : expanding.Result) → CommandBegins command → ListBegins body
+    → WantedBegin pending.words → ResultBegins r → TurnHolds (series_by command pending name body r)
+series_by_holds command pending name body (expanding.Need program env) c l w b = (b, (c, w))
+series_by_holds command pending name body (expanding.Fields fields env) c l w b = rest_holds (record { name = name; values = fields; body = body }) (unexcused 0) l
+series_by_holds command pending name body (expanding.Stops fault env) c l w b = tt
 
-module _ (files : FileMap) (env : Environment) (command : Command) (pending : Option Pending) (c : CommandBegins command) where
+module _ (files : FileMap) (env : Environment) (command : Command) (pending : Option Pending) (c : CommandBegins command) (k : PendingHolds pending) where
   words_of_hold : (name : List ℕ) (body : CompoundList) (wanted : List Wanted) → ListBegins body → WantedBegin wanted
-      → let p = start_of env pending in TurnHolds (series_by command p name body (expansion_with files wanted p.start p.answers))
+      → TurnHolds (series_from files command name body (start_of env wanted pending))
   words_of_hold name body wanted l b =
-      let p = start_of env pending in
-      series_by_holds command p name body (expansion_with files wanted p.start p.answers) c l (answers_begin files wanted p.start p.answers b)
+      let p = start_of env wanted pending in
+      let w = start_begins env wanted pending b k in series_by_holds command p name body (fields_in files p) c l w (fields_begin files p w)
 
   abbrev FormTurn : Opened layer.CompoundForm-F → Type 0
   FormTurn z = TurnHolds (header_turn files env command pending (header_in z))
@@ -431,21 +439,21 @@ branches_hold _ (more_case_items item others p i r) =
 
 next_branch_holds : (word : List ℕ) (branches : List CaseBranch) → BranchesHold branches → ActiveHolds (next_branch word branches)
 next_branch_holds word [] h = tt
-next_branch_holds word (branch ∷ branches) h = h
+next_branch_holds word (branch ∷ branches) h = (h, tt)
 
-word_by_holds : (command : Command) (pending : Pending) (branches : List CaseBranch) (r : expanding.Result) → CommandBegins command → BranchesHold branches → ResultBegins r
-    → TurnHolds (word_by command pending branches r)
-word_by_holds command pending branches (expanding.Need program env) c h b = (b, c)
-word_by_holds command pending branches (expanding.Fields fields env) c h b = next_branch_holds (text_of fields) branches h
-word_by_holds command pending branches (expanding.Stops fault env) c h b = tt
+word_by_holds : (command : Command) (pending : Pending) (branches : List CaseBranch) (r : expanding.Result) → CommandBegins command → BranchesHold branches
+    → WantedBegin pending.words → ResultBegins r → TurnHolds (word_by command pending branches r)
+word_by_holds command pending branches (expanding.Need program env) c h w b = (b, (c, w))
+word_by_holds command pending branches (expanding.Fields fields env) c h w b = next_branch_holds (text_of fields) branches h
+word_by_holds command pending branches (expanding.Stops fault env) c h w b = tt
 
-module _ (files : FileMap) (env : Environment) (command : Command) (pending : Option Pending) (c : CommandBegins command) where
+module _ (files : FileMap) (env : Environment) (command : Command) (pending : Option Pending) (c : CommandBegins command) (k : PendingHolds pending) where
   word_of_holds : (word : Word) (items : List CaseItem) → PartsBegin (word_parts word) → CaseItemsBegin items
-      → let p = start_of env pending in TurnHolds (word_by command p (branches_of items) (expansion_with files (single (view.out-Word word).parts ∷ []) p.start p.answers))
+      → TurnHolds (word_from files command (branches_of items) (start_of env (single (view.out-Word word).parts ∷ []) pending))
   word_of_holds word items w i =
-      let p = start_of env pending in
       let wanted = single (view.out-Word word).parts ∷ [] in
-      word_by_holds command p (branches_of items) (expansion_with files wanted p.start p.answers) c (branches_hold items i) (answers_begin files wanted p.start p.answers (w, tt))
+      let p = start_of env wanted pending in
+      let b = start_begins env wanted pending (w, tt) k in word_by_holds command p (branches_of items) (fields_in files p) c (branches_hold items i) b (fields_begin files p b)
 
   abbrev CaseFormTurn : Opened layer.CompoundForm-F → Type 0
   CaseFormTurn z = TurnHolds (cases.header_turn files env command pending (cases.header_in z))
@@ -475,21 +483,23 @@ tried_holds : (word : List ℕ) (branch : CaseBranch) (branches : List CaseBranc
 tried_holds word branch branches pattern h =
     choose MoveHolds (is_match pattern word) (move.Enter branch.body) (move.At (next_branch word branches)) (λ e. h.0.1) (λ e. next_branch_holds word branches h.1)
 
-pattern_by_holds : (word : List ℕ) (branch : CaseBranch) (branches : List CaseBranch) (pending : Pending) (p : Patterned) → BranchesHold (branch ∷ branches) → PatternedBegins p
-    → TurnHolds (pattern_by word branch branches pending p)
-pattern_by_holds word branch branches pending (Needs program env) h b = (b, h)
-pattern_by_holds word branch branches pending (Pattern pattern env) h b = tried_holds word branch branches pattern h
-pattern_by_holds word branch branches pending (Fails fault env) h b = tt
+pattern_by_holds : (word : List ℕ) (branch : CaseBranch) (branches : List CaseBranch) (pending : Pending) (p : Patterned) → BranchesHold (branch ∷ branches)
+    → WantedBegin pending.words → PatternedBegins p → TurnHolds (pattern_by word branch branches pending p)
+pattern_by_holds word branch branches pending (Needs program env) h w b = (b, (h, w))
+pattern_by_holds word branch branches pending (Pattern pattern env) h w b = tried_holds word branch branches pattern h
+pattern_by_holds word branch branches pending (Fails fault env) h w b = tt
 
-branch_turn_holds : (env : Environment) (word : List ℕ) (pending : Option Pending) (branches : List CaseBranch) → BranchesHold branches → TurnHolds (branch_turn env word pending branches)
-branch_turn_holds env word pending [] h = tt
-branch_turn_holds env word pending (branch ∷ branches) h =
-    let p = start_of env pending in
-    pattern_by_holds word branch branches p (pattern_with (single branch.pattern ∷ []) p.start p.answers) h (pattern_begins (single branch.pattern ∷ []) p.start p.answers (h.0.0, tt))
+branch_turn_holds : (env : Environment) (word : List ℕ) (pending : Option Pending) (branches : List CaseBranch) → BranchesHold branches → PendingHolds pending
+    → TurnHolds (branch_turn env word pending branches)
+branch_turn_holds env word pending [] h k = tt
+branch_turn_holds env word pending (branch ∷ branches) h k =
+    let p = start_of env (single branch.pattern ∷ []) pending in
+    let w = start_begins env (single branch.pattern ∷ []) pending (h.0.0, tt) k in
+    pattern_by_holds word branch branches p (pattern_from p) h w (pattern_begins p.words p.start p.answers w)
 
-pub pattern_holds : (env : Environment) (case : Case) (pending : Option Pending) → BranchesHold case.branches → TurnHolds (pattern_turn env case pending)
+pub pattern_holds : (env : Environment) (case : Case) (pending : Option Pending) → BranchesHold case.branches → PendingHolds pending → TurnHolds (pattern_turn env case pending)
 unfolding pattern_turn
-pattern_holds env case pending h = branch_turn_holds env case.word pending case.branches h
+pattern_holds env case pending h k = branch_turn_holds env case.word pending case.branches h k
 
 abbrev pub RoundHolds : Round → Type 0
 RoundHolds (round.Body series) = ListBegins series.body

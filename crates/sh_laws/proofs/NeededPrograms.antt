@@ -29,6 +29,7 @@ use Rattle.sh_syntax.specs.declared.tree.Part.{Part}
 use Rattle.sh_syntax.specs.declared.tree.Part.TheVariants as part
 use Rattle.sh_syntax.specs.declared.tree.SimpleItem.{SimpleItem}
 use Rattle.sh_vars.specs.Environment.{Environment}
+use Rattle.sh_laws.specs.BeforeAction.{WantedBegin}
 use Rattle.sh_laws.specs.Beginnings.{ItemsBegin, PartsBegin, ProgramBegins, WordsBegin, item_parts, more_parts, more_words, no_parts, no_words, of_program, target_parts}
 
 abbrev pub ItsItems : CompoundList → Type 0
@@ -128,10 +129,6 @@ pieces_begin _ (more_parts p others i g b) =
     (subst PartBegins (view.roll-out-Part p) (by_form (view.out-Part p) (pieces_begin (inside (view.out-Part p)) i) g), pieces_begin others b)
 
 -- ---- words
-abbrev pub WantedBegin : List Wanted → Type 0
-WantedBegin [] = Unit {0}
-WantedBegin (w ∷ ws) = PartsBegin (parts_of w.parts) × WantedBegin ws
-
 word_begins : (w : Wanted) → PartsBegin (parts_of w.parts) → RunBegins (run_word w)
 unfolding run_word
 word_begins w b = enters_begins (purpose.Word w.context) w.context (pieces (parts_of w.parts)) (pieces_begin (parts_of w.parts) b)

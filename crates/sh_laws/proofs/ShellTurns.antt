@@ -22,7 +22,7 @@ use Rattle.sh_exec_entering.specs.Bodies.{body_of}
 use Rattle.sh_exec_actions.specs.declared.action.Finish.TheVariants.{Status, Fault, Messages, Output}
 use Rattle.sh_exec_actions.specs.declared.action.Move.{Move}
 use Rattle.sh_exec_actions.specs.declared.action.Move.TheVariants as move
-use Rattle.sh_exec_actions.specs.declared.action.Pending.{Pending}
+use Rattle.sh_exec_actions.specs.Answers.{Pending}
 use Rattle.sh_exec_actions.specs.declared.action.Action.{Action}
 use Rattle.sh_exec_actions.specs.declared.action.Action.TheVariants.{Reading, Prompting, ReadInput, Expanding, ReadSubstitution, WaitSubstitution, Asking, WaitForJob, Redirecting, Forking, Starting, ForkStage, ForkList, AssignLoopVariable, Defining, Waiting, Writing, Trapping, Ending}
 use Rattle.sh_exec_actions.specs.declared.action.ExpandedCommand.{ExpandedCommand}
@@ -55,7 +55,7 @@ use Rattle.sh_exec_parts.specs.declared.simple.Assignment.{Assignment}
 use Rattle.sh_exec.specs.Acting.{after_collection, collect_by, collect_end, collect_from, collect_turn, end_turn, ending_by, expand_turn, keeps, next, read_turn, redirect_by, redirect_from, redirect_one, redirect_turn, round_run, trap_by, trap_turn, with_undo, with_written, without_trap, write_turn}
 use Rattle.sh_exec_actions.specs.declared.action.PipelineWait.{PipelineWait}
 use Rattle.sh_builtin_outcome.specs.declared.rest.JobWait.{JobWait}
-use Rattle.sh_exec_requests.specs.Continuing.{job_ended, job_wait_by, job_wait_turn, with_suspended}
+use Rattle.sh_exec_requests.specs.JobWaits.{job_ended, job_wait_by, job_wait_turn, with_suspended}
 use Rattle.sh_exec_requests.specs.Waiting.{answer_by, answer_turn, controlled_by, job_line, terminal_back, told, wait_by, wait_turn, wait_with, with_substitution, is_brought_back, waited}
 use Rattle.sh_exec_machine.specs.Waits.{signal_status}
 use Rattle.sh_jobs.specs.States.{state_of}
@@ -70,7 +70,7 @@ use Rattle.sh_exec.specs.Traps.{interrupted, interruption, shell_before, trap_be
 use Rattle.sh_kernel.specs.Calls.{after_take_signal}
 use Rattle.sh_builtin_shell.specs.Shells.{after_suspension, has_job_control, up_to_date, is_interactive}
 use Rattle.sh_exec_requests.specs.Asking.{ask_by, ask_turn, asked}
-use Rattle.sh_exec_requests.specs.LineReading.{most_read}
+use Rattle.sh_exec_requests.specs.ReadLimit.{most_read}
 use Rattle.sh_builtin.specs.Resuming.{resumed}
 use Rattle.sh_builtin.specs.Answer.{Answer}
 use Rattle.sh_builtin_outcome.specs.Rests.{asker_of}
@@ -92,7 +92,7 @@ use Rattle.sh_exec_actions.specs.declared.action.Launch.TheVariants.{Foreground,
 use Rattle.sh_vars.specs.Environment.{Environment}
 use Rattle.sh_laws.proofs.FunctionTurns.{functions_hold, settled_keeps}
 use Rattle.sh_laws.proofs.NeededPrograms.{ItsItems}
-use Rattle.sh_laws.specs.BeforeAction.{ActedStands, ActiveStands, AssignmentsHold, ChildStands, FoundBegins, FunctionsHold, InterpreterStands, PlaceHolds, RoleHolds, RunStands, WantsHold}
+use Rattle.sh_laws.specs.BeforeAction.{ActedStands, ActiveStands, AssignmentsHold, ChildStands, FoundBegins, FunctionsHold, InterpreterStands, PendingHolds, PlaceHolds, RoleHolds, RunStands, SubstitutionHolds, WantedBegin, WantsHold}
 use Rattle.sh_laws.specs.Beginnings.{AndOrBegins, CommandBegins, CommandsBegin, by_definition, by_form, by_words, more_commands, no_commands}
 use Rattle.sh_laws.proofs.BegunCommands.{and_or_stands, form_stands, list_stands}
 use Rattle.sh_laws.proofs.BegunProcesses.{body_stands, stage_stands}
@@ -145,13 +145,13 @@ read_holds ends_shell true env status (found.Fault why rest) h = (tt, tt)
 read_holds ends_shell false env status (found.Fault why rest) h = tt
 
 expand_holds : (files : FileMap) (env : Environment) (functions : List Named) (wants : ToExpand) (pending : Option Pending) → FunctionsHold functions → WantsHold wants
-    → TurnHolds (expand_turn files env functions wants pending)
-expand_holds files env functions (Words command in_place status) pending f h = words_hold files env functions command in_place status pending f h
-expand_holds files env functions (Values p) pending f h = assign_holds files env p pending h
-expand_holds files env functions (Redirects command) pending f h = redirects_hold files env command pending h
-expand_holds files env functions (ForWords command) pending f h = series_hold files env command pending h
-expand_holds files env functions (CaseWord command) pending f h = case_holds files env command pending h
-expand_holds files env functions (CasePattern case) pending f h = pattern_holds env case pending h
+    → PendingHolds pending → TurnHolds (expand_turn files env functions wants pending)
+expand_holds files env functions (Words command in_place status) pending f h k = words_hold files env functions command in_place status pending f h k
+expand_holds files env functions (Values p) pending f h k = assign_holds files env p pending h k
+expand_holds files env functions (Redirects command) pending f h k = redirects_hold files env command pending h k
+expand_holds files env functions (ForWords command) pending f h k = series_hold files env command pending h k
+expand_holds files env functions (CaseWord command) pending f h k = case_holds files env command pending h k
+expand_holds files env functions (CasePattern case) pending f h k = pattern_holds env case pending h k
 
 -- ---- a program's process begins with its redirections, its assignments or its start
 program_stands : (p : ExpandedCommand) → p.role ≡ Program → RunStands (move_run (performed_by p p.role))
@@ -160,15 +160,15 @@ program_stands p e = subst (λ r. RunStands (move_run (performed_by p r))) (sym 
 ahead_stands : (p : ExpandedCommand) (redirections : List Redirection) (assignments : List Assignment) → p.role ≡ Program → AssignmentsHold p.assignments → RunStands (move_run (ahead_by p redirections assignments))
 unfolding final_move
 ahead_stands p (redirection ∷ redirections) assignments e h = (subst RoleHolds (sym e) tt, h)
-ahead_stands p [] (assignment ∷ assignments) e h = (subst RoleHolds (sym e) tt, h)
+ahead_stands p [] (assignment ∷ assignments) e h = ((subst RoleHolds (sym e) tt, h), tt)
 ahead_stands p [] [] e h = program_stands p e
 
 -- ---- what a substitution's process writes
-collected_holds : (s : KernelState) (shell : Shell) (substitution : Substitution) (aside : ℕ) → WantsHold substitution.wants → ActedHolds (after_collection s shell substitution aside)
+collected_holds : (s : KernelState) (shell : Shell) (substitution : Substitution) (aside : ℕ) → SubstitutionHolds substitution → ActedHolds (after_collection s shell substitution aside)
 unfolding after_collection
 collected_holds s shell substitution aside h = h
 
-collect_by_holds : (s : KernelState) (shell : Shell) (substitution : Substitution) (aside : ℕ) (told : ReadOutcome) → WantsHold substitution.wants
+collect_by_holds : (s : KernelState) (shell : Shell) (substitution : Substitution) (aside : ℕ) (told : ReadOutcome) → SubstitutionHolds substitution
     → ActedHolds (collect_by s shell substitution aside told)
 collect_by_holds s shell substitution aside (taken.Bytes bytes) h =
     choose ActedHolds (nat_eq (length bytes) 0) (after_collection s shell substitution aside) (with_run s shell (next (ReadSubstitution (with_written substitution bytes))))
@@ -176,12 +176,12 @@ collect_by_holds s shell substitution aside (taken.Bytes bytes) h =
 collect_by_holds s shell substitution aside taken.Wait h = h
 collect_by_holds s shell substitution aside taken.Failed h = collected_holds s shell substitution aside h
 
-collect_end_holds : (s : KernelState) (shell : Shell) (substitution : Substitution) (o : Option ℕ) → WantsHold substitution.wants → ActedHolds (collect_end s shell substitution o)
+collect_end_holds : (s : KernelState) (shell : Shell) (substitution : Substitution) (o : Option ℕ) → SubstitutionHolds substitution → ActedHolds (collect_end s shell substitution o)
 unfolding collect_from
 collect_end_holds s shell substitution None h = h
 collect_end_holds s shell substitution (Some aside) h = let t = take_bytes s shell.pid (Aside aside) 1024 in collect_by_holds t.after shell substitution aside t.told h
 
-collect_holds : (s : KernelState) (shell : Shell) (substitution : Substitution) → WantsHold substitution.wants → ActedHolds (collect_turn s shell substitution)
+collect_holds : (s : KernelState) (shell : Shell) (substitution : Substitution) → SubstitutionHolds substitution → ActedHolds (collect_turn s shell substitution)
 unfolding collect_turn
 collect_holds s shell substitution h = collect_end_holds s shell substitution substitution.aside h
 
@@ -203,11 +203,11 @@ with_status_holds (ForWords command) status h = h
 with_status_holds (CaseWord command) status h = h
 with_status_holds (CasePattern case) status h = h
 
-answer_by_holds : (substitution : Substitution) (o : Option ℕ) → WantsHold substitution.wants → PlaceHolds (answer_by substitution o)
+answer_by_holds : (substitution : Substitution) (o : Option ℕ) → SubstitutionHolds substitution → PlaceHolds (answer_by substitution o)
 answer_by_holds substitution None h = h
-answer_by_holds substitution (Some status) h = with_status_holds substitution.wants status h
+answer_by_holds substitution (Some status) h = (with_status_holds substitution.wants status h.0, h.1)
 
-answer_holds : (s : KernelState) (pid : ℕ) (substitution : Substitution) → WantsHold substitution.wants → PlaceHolds (answer_turn s pid substitution)
+answer_holds : (s : KernelState) (pid : ℕ) (substitution : Substitution) → SubstitutionHolds substitution → PlaceHolds (answer_turn s pid substitution)
 unfolding answer_turn
 answer_holds s pid substitution h = answer_by_holds substitution (wait_status s pid substitution.children) h
 
@@ -448,12 +448,12 @@ failure_holds (CaseWord command) = tt
 failure_holds (CasePattern case) = tt
 
 substitution_holds : (s : KernelState) (shell : Shell) (program : CompoundList) (substitution : Substitution) (o : Option ℕ) → FunctionsHold shell.functions → ItsItems program
-    → WantsHold substitution.wants → TurnedHolds (substitution_by s shell program substitution o)
+    → SubstitutionHolds substitution → TurnedHolds (substitution_by s shell program substitution o)
 substitution_holds s shell program substitution None f b h = (move_holds (fork_failure substitution.wants) (failure_holds substitution.wants), tt)
 substitution_holds s shell program substitution (Some child) f b h = (h, (body_stands program b, f))
 
 substitute_holds : (s : KernelState) (shell : Shell) (program : CompoundList) (wants : ToExpand) (pending : Pending) → FunctionsHold shell.functions → ItsItems program
-    → WantsHold wants → TurnedHolds (substitute_turn s shell program wants pending)
+    → WantsHold wants × WantedBegin pending.words → TurnedHolds (substitute_turn s shell program wants pending)
 unfolding substitute_turn
 substitute_holds s shell program wants pending f b h =
     let forked = fork_of s shell.pid None true in
@@ -470,7 +470,7 @@ place_holds around s shell (ReadInput b) f h = (input_holds s shell b, tt)
 place_holds around s shell (Reading rest status) f h = (read_holds (ends_shell around) (goes_on_reading around shell) shell.vars status (next_command shell.aliases rest) (next_holds shell.aliases rest), tt)
 place_holds around s shell (Expanding wants pending) f h =
     let t = expand_turn s.machine.files shell.vars shell.functions wants pending in
-    expanded_holds s (record shell { vars = t.environment }) t.outcome f (expand_holds s.machine.files shell.vars shell.functions wants pending f h)
+    expanded_holds s (record shell { vars = t.environment }) t.outcome f (expand_holds s.machine.files shell.vars shell.functions wants pending f h.0 h.1)
 place_holds around s shell (ReadSubstitution substitution) f h = (collect_holds s shell substitution h, tt)
 place_holds around s shell (WaitSubstitution substitution) f h = (answer_holds s shell.pid substitution h, tt)
 place_holds around s shell (Asking rest) f h = (ask_holds s shell rest, tt)

@@ -5,7 +5,7 @@ use Rattle.sh_builtin_shell.specs.declared.shell.Shell.{Shell}
 use Rattle.sh_exec_actions.specs.declared.action.Action.TheVariants.{WaitForJob}
 use Rattle.sh_exec_actions.specs.declared.action.Active.TheVariants.{Next}
 use Rattle.sh_builtin_outcome.specs.declared.rest.JobWait.{JobWait}
-use Rattle.sh_exec_requests.specs.Continuing.{job_ended, job_wait_by, job_wait_turn}
+use Rattle.sh_exec_requests.specs.JobWaits.{job_ended, job_wait_by, job_wait_turn}
 use Rattle.sh_exec_requests.specs.Placed.{at_place}
 use Rattle.sh_exec_requests.specs.Waiting.{controlled_by, terminal_back, wait_turn, waiting}
 use Rattle.sh_exec_machine.specs.Waits.{wait_status}

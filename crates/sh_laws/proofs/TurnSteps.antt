@@ -20,7 +20,7 @@ use Rattle.sh_exec_actions.specs.declared.action.Active.TheVariants.{Acting, Cal
 use Rattle.sh_exec_actions.specs.declared.action.Expanded.{Expanded}
 use Rattle.sh_exec_actions.specs.declared.action.Expanded.TheVariants as expanded
 use Rattle.sh_exec_actions.specs.declared.action.Finish.{Finish}
-use Rattle.sh_exec_actions.specs.declared.action.Pending.{Pending}
+use Rattle.sh_exec_actions.specs.Answers.{Pending}
 use Rattle.sh_exec_actions.specs.declared.action.Action.{Action}
 use Rattle.sh_exec_actions.specs.declared.action.Action.TheVariants.{Reading, Prompting, ReadInput, Expanding, ReadSubstitution, WaitSubstitution, Asking, WaitForJob, Redirecting, Forking, Starting, ForkStage, ForkList, AssignLoopVariable, Defining, Waiting, Writing, Trapping, Ending}
 use Rattle.sh_exec_actions.specs.declared.action.ExpandedCommand.{ExpandedCommand}
@@ -44,7 +44,7 @@ use Rattle.sh_kernel_signals.specs.declared.target.SignalTarget.{SignalTarget}
 use Rattle.sh_signal.specs.Signals.{signals}
 use Rattle.sh_signal.specs.declared.signal.Signal.{Signal}
 use Rattle.sh_exec_requests.specs.Asking.{after_continuation, after_continue, after_first, ask_by, ask_turn, asked}
-use Rattle.sh_exec_requests.specs.LineReading.{most_read}
+use Rattle.sh_exec_requests.specs.ReadLimit.{most_read}
 use Rattle.sh_builtin.specs.Answer.{Answer}
 use Rattle.sh_builtin_outcome.specs.declared.rest.BuiltinRest.{BuiltinRest}
 use Rattle.sh_builtin_outcome.specs.declared.rest.BuiltinRest.TheVariants.{Reads, Waits, Kills, Continues}
@@ -83,7 +83,7 @@ use Rattle.sh_builtin_outcome.specs.declared.rest.Continuation.{Continuation}
 use Rattle.sh_builtin_outcome.specs.declared.rest.Continuation.TheVariants as continuation
 use Rattle.sh_builtin_jobs.specs.declared.continuing.ContinuedJob.{ContinuedJob}
 use Rattle.sh_builtin_outcome.specs.declared.rest.JobWait.{JobWait}
-use Rattle.sh_exec_requests.specs.Continuing.{job_ended, job_wait_by, job_wait_turn}
+use Rattle.sh_exec_requests.specs.JobWaits.{job_ended, job_wait_by, job_wait_turn}
 use Rattle.sh_kernel_signals.specs.declared.target.SignalTarget.TheVariants.{Group}
 use Rattle.sh_signal.specs.declared.signal.Signal.TheVariants as signal
 use Rattle.sh_exec_requests.specs.Waiting.{controlled_by, terminal_back, wait_turn, wait_with}

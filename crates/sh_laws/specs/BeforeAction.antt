@@ -15,7 +15,9 @@ use Rattle.sh_exec_actions.specs.declared.action.Action.{Action}
 use Rattle.sh_exec_actions.specs.declared.action.Action.TheVariants.{Reading, Prompting, ReadInput, Expanding, ReadSubstitution, WaitSubstitution, Asking, WaitForJob, Redirecting, Forking, Starting, ForkStage, ForkList, AssignLoopVariable, Defining, Waiting, Writing, Trapping, Ending}
 use Rattle.sh_exec_actions.specs.declared.action.Role.{Role}
 use Rattle.sh_exec_actions.specs.declared.action.Role.TheVariants.{NoCommandName, Builtin, Function, Program, Exec, Compound, Subshell}
+use Rattle.sh_exec_actions.specs.Answers.{Pending}
 use Rattle.sh_exec_actions.specs.declared.action.CaseBranch.{CaseBranch}
+use Rattle.sh_exec_actions.specs.declared.action.Substitution.{Substitution}
 use Rattle.sh_exec_actions.specs.declared.action.ToExpand.{ToExpand}
 use Rattle.sh_exec_actions.specs.declared.action.ToExpand.TheVariants.{Words, Values, Redirects, ForWords, CaseWord, CasePattern}
 use Rattle.sh_exec.specs.Forms.{Acted}
@@ -25,6 +27,7 @@ use Rattle.sh_exec_actions.specs.declared.form.Form.TheVariants.{Text, Input, Co
 use Rattle.sh_exec_actions.specs.declared.form.Loop.{Loop}
 use Rattle.sh_exec_parts.specs.declared.simple.Assignment.{Assignment}
 use Rattle.sh_expand.specs.Parts.{parts_of}
+use Rattle.sh_expand.specs.declared.wanted.Wanted.{Wanted}
 use Rattle.sh_laws.specs.Beginnings.{AndOrBegins, CommandBegins, CommandsBegin, ConnectedBegin, ElseBegins, ElseIfsBegin, ItemsBegin, ListBegins, PartsBegin}
 use Rattle.sh_syntax.specs.declared.tree.Command.TheViews as view
 
@@ -77,14 +80,26 @@ WantsHold (ForWords command) = CommandBegins command
 WantsHold (CaseWord command) = CommandBegins command
 WantsHold (CasePattern case) = BranchesHold case.branches
 
+-- the words of an expansion that waits
+abbrev pub WantedBegin : List Wanted → Type 0
+WantedBegin [] = Unit {0}
+WantedBegin (w ∷ ws) = PartsBegin (parts_of w.parts) × WantedBegin ws
+
+abbrev pub PendingHolds : Option Pending → Type 0
+PendingHolds None = Unit {0}
+PendingHolds (Some pending) = WantedBegin pending.words
+
+abbrev pub SubstitutionHolds : Substitution → Type 0
+SubstitutionHolds substitution = WantsHold substitution.wants × WantedBegin substitution.pending.words
+
 -- a process is made for a program alone
 abbrev pub PlaceHolds : Action → Type 0
 PlaceHolds (Reading rest status) = Unit {0}
 PlaceHolds (Prompting beginning) = Unit {0}
 PlaceHolds (ReadInput beginning) = Unit {0}
-PlaceHolds (Expanding wants pending) = WantsHold wants
-PlaceHolds (ReadSubstitution substitution) = WantsHold substitution.wants
-PlaceHolds (WaitSubstitution substitution) = WantsHold substitution.wants
+PlaceHolds (Expanding wants pending) = WantsHold wants × PendingHolds pending
+PlaceHolds (ReadSubstitution substitution) = SubstitutionHolds substitution
+PlaceHolds (WaitSubstitution substitution) = SubstitutionHolds substitution
 PlaceHolds (Asking rest) = Unit {0}
 PlaceHolds (WaitForJob wait) = Unit {0}
 PlaceHolds (Redirecting p) = RoleHolds p.role × AssignmentsHold p.assignments

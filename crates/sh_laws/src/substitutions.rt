@@ -1,7 +1,7 @@
 //! Laws of expansions with answers.
 ghost use Rattle.std.specs.Prelude.{◌≡◌, ◌++◌, ℕ, List};
 ghost use Rattle.sh_laws.specs.Answers.{Stays};
-ghost use Rattle.sh_exec_command.specs.Answers.{expansion_with};
+ghost use Rattle.sh_expand.specs.Answers.{expansion_with};
 ghost use Rattle.sh_expand.specs.Expanding.{expand};
 ghost use Rattle.sh_expand.specs.declared.wanted.Wanted.{Wanted};
 ghost use Rattle.sh_files.specs.Nodes.{FileMap};

@@ -1,7 +1,7 @@
 //! Reading lines by descriptor 0.
 ghost use Rattle.std.specs.Prelude.{◌≡◌};
 ghost use Rattle.sh_kernel.specs.State.{KernelState, StandsAt};
-ghost use Rattle.sh_exec_requests.specs.LineReading.{most_read};
+ghost use Rattle.sh_exec_requests.specs.ReadLimit.{most_read};
 
 use sh_kernel::Kernel;
 

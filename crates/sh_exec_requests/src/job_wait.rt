@@ -1,6 +1,6 @@
 //! Waiting for a job that fg has brought to the foreground (XCU fg).
 ghost use Rattle.std.specs.Prelude.{◌≡◌, IfOk};
-ghost use Rattle.sh_exec_requests.specs.Continuing.{job_ended, job_suspended, job_wait_by, job_wait_turn};
+ghost use Rattle.sh_exec_requests.specs.JobWaits.{job_ended, job_suspended, job_wait_by, job_wait_turn};
 ghost use Rattle.sh_exec_requests.specs.Placed.{IsPlaced};
 ghost use Rattle.sh_exec_machine.specs.Waits.{wait_status};
 ghost use Rattle.sh_jobs.specs.States.{state_of};
@@ -71,7 +71,7 @@ fn job_ended(kernel: &Kernel, shell: &mut Shell, wait: JobWait) -> Active
 /// The turn of waiting for a job that is in the foreground (XCU fg): once all its processes have ended the command is done, with the status of
 /// the last, and the shell forgets the job. It is done also where some are stopped and none runs (2.11): a line of the job is written next. The
 /// terminal is the shell's again. The only error is want of memory; what the kernel and the shell are then is left open.
-#[tactic(auto, unfolding(crate::specs::Continuing::job_wait_turn))]
+#[tactic(auto, unfolding(crate::specs::JobWaits::job_wait_turn))]
 pub fn job_wait_turn(
     alloc: Global,
     kernel: &mut Kernel,

@@ -1,23 +1,21 @@
 -- An expansion with answers (XCU 2.6.3): it goes from its first word, and each answer serves the next need.
-use Rattle.std.specs.Prelude.{◌≡◌, ℕ, List, [], ◌∷◌, ◌++◌}
+use Rattle.std.specs.Prelude.{ℕ, List, [], ◌∷◌, ◌++◌}
 use Rattle.sh_expand.specs.Expanding as expanding
 use Rattle.sh_expand.specs.Expansion.{Outcome, Need, Done, Stops}
-use Rattle.sh_expand.specs.FieldProgress.{IsStep, first_pattern}
+use Rattle.sh_expand.specs.FieldProgress.{first_pattern}
 use Rattle.sh_expand.specs.Parts as words
-use Rattle.sh_expand.specs.WordProgress.{inputs}
-use Rattle.sh_expand.specs.declared.expansion.Expansion.{Expansion}
-use Rattle.sh_expand.specs.declared.expansion.Step.{Step}
-use Rattle.sh_expand.specs.declared.expansion.Step.TheVariants as step
 use Rattle.sh_expand.specs.declared.wanted.Wanted.{Wanted}
-use Rattle.sh_expand_parts.specs.declared.context.Context.TheVariants.{Single}
 use Rattle.sh_expand_parts.specs.declared.fault.Fault.{Fault}
 use Rattle.sh_files.specs.Nodes.{FileMap}
 use Rattle.sh_pattern.specs.declared.pattern_byte.PatternByte.{PatternByte}
 use Rattle.sh_syntax.specs.declared.tree.CompoundList.{CompoundList}
-use Rattle.sh_syntax.specs.declared.tree.Parts.{Parts}
-use Rattle.sh_exec_command.specs.declared.answers.PatternStep.{PatternStep}
-use Rattle.sh_exec_command.specs.declared.answers.PatternStep.TheVariants as pattern_step
 use Rattle.sh_vars.specs.Environment.{Environment}
+
+-- words whose expansion needs answers: the variables at its start, and the answers so far
+pub record Pending : Type 0 where
+  pub words : List Wanted
+  pub start : Environment
+  pub answers : List (List ℕ)
 
 -- the next answer serves a need; what ends needs none
 abbrev pub resumption : Outcome → Outcome → Outcome
@@ -37,17 +35,10 @@ words_with wanted env answers = words_after wanted env [] answers
 unfoldable pub expansion_with : FileMap → List Wanted → Environment → List (List ℕ) → expanding.Result
 expansion_with files wanted env answers = expanding.result_of files (words_with wanted env answers)
 
--- a step and the variables with it, as what the expansion comes to
-abbrev pub result_of : Step → Environment → expanding.Result
-result_of (step.Need program) env = expanding.Need program env
-result_of (step.Fields fields) env = expanding.Fields fields env
-result_of (step.Fault fault) env = expanding.Stops fault env
+abbrev pub fields_in : FileMap → Pending → expanding.Result
+fields_in files p = expansion_with files p.words p.start p.answers
 
 -- ---- to a pattern (2.14.1), which the first word gives
--- a word that gives one text
-abbrev pub single : Parts → Wanted
-single parts = record { parts = parts; context = Single }
-
 pub data Patterned : Type 0 where
   Needs : (program : CompoundList) → (env : Environment) → Patterned
   Pattern : (pattern : List PatternByte) → (env : Environment) → Patterned
@@ -61,15 +52,5 @@ pattern_of (Stops fault env) = Fails fault env
 unfoldable pub pattern_with : List Wanted → Environment → List (List ℕ) → Patterned
 pattern_with wanted env answers = pattern_of (words_with wanted env answers)
 
-abbrev pub patterned_by : PatternStep → Environment → Patterned
-patterned_by (pattern_step.Need program) env = Needs program env
-patterned_by (pattern_step.Pattern pattern) env = Pattern pattern env
-patterned_by (pattern_step.Fault fault) env = Fails fault env
-
--- a step of an expansion that has had all its answers, or needs no more of them
-pub record IsAnswered (files : FileMap) (reached : Step) (expansion : Expansion) (env : Environment) (outcome : Outcome) : Type 0 where
-  pub wanted : List Wanted
-  pub start : Environment
-  pub given : List (List ℕ)
-  pub is_step : IsStep files reached expansion env (inputs wanted start given)
-  pub is_outcome : words.expand wanted start given ≡ outcome
+abbrev pub pattern_from : Pending → Patterned
+pattern_from p = pattern_with p.words p.start p.answers

@@ -1,8 +1,8 @@
 use Rattle.std.proofs.Common.{subst}
-use Rattle.sh_exec_requests.specs.Continuing.{job_suspended}
+use Rattle.sh_exec_requests.specs.JobWaits.{job_suspended}
 use Rattle.sh_exec_requests.specs.Placed.{IsPlaced}
 use Rattle.sh_exec_requests.specs.Waiting.{terminal_back}
-use Rattle.sh_exec_requests.proofs.continuing.job_suspended.Goals as goal
+use Rattle.sh_exec_requests.proofs.job_wait.job_suspended.Goals as goal
 
 -- the job is suspended from where the terminal is the shell's again, and its jobs are up to date
 pub returns-clause-state : goal.returns-clause-state
