@@ -19,7 +19,7 @@ use std::alloc::Global;
 impl Copying for Saved {
     fn copy(&self, alloc: Global) -> Result<Saved, NoMemory> {
         match self {
-            Saved::Variable(entry) => Ok(Saved::Variable(entry.copy(alloc)?)),
+            Saved::Variable(entry) => Ok(Saved::Variable(entry.copy()?)),
             Saved::Absent(name) => Ok(Saved::Absent(name.copy(alloc)?)),
         }
     }

@@ -2,8 +2,8 @@
 ghost use Rattle.std.specs.Prelude.{◌≡◌, IfOk};
 
 use crate::action::{Action, ForLoop, Undo};
+use crate::boxed::Boxed;
 use crate::status::CommandStatus;
-use crate::suspended::Suspended;
 use sh_base::NoMemory;
 use sh_base::sequence::{Sequence, Text, copies_of};
 use sh_base::shared::Shared;
@@ -116,7 +116,7 @@ pub enum Form {
     /// The action of a trap on EXIT (2.15 trap), in a shell that ends with this status after it.
     Trapped(u8),
     /// The action of a trap on a signal (2.15 trap): what `$?` was before it, and the action of the shell that comes after it.
-    Interruption(u8, Suspended<Action>),
+    Interruption(u8, Boxed<Action>),
     /// All of a process that was made where failures are ignored: they are ignored there too (2.15, set -e).
     FailuresIgnored,
 }
@@ -126,7 +126,7 @@ fn copy_interruption(alloc: Global, status: u8, next: &Action) -> Result<Form, N
     ensures { IfOk result (λ form. form ≡ Form.Interruption status next.now) }
 {
     let next = next.copy(alloc)?;
-    Ok(Form::Interruption(status, Suspended::new(alloc, next)?))
+    Ok(Form::Interruption(status, Boxed::new(alloc, next)?))
 }
 
 impl Copying for Form {

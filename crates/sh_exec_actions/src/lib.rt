@@ -4,17 +4,18 @@
 
 mod action;
 mod beginning;
+mod boxed;
 mod copying;
 mod form;
 mod preparing;
 pub mod status;
-mod suspended;
 
 pub use action::{
     Action, Active, Case, CaseBranch, Expanded, ExpandedCommand, Finish, ForLoop, Launch, Move,
     PipelineWait, ProgramStart, Report, Role, Saved, Stages, Substitution, ToExpand, Undo,
 };
 pub use beginning::Beginning;
+pub use boxed::Boxed;
 pub use form::{Branches, Form, Frame, Loop};
 pub use preparing::{
     begin_command, failing, first_place, go_ahead, no_undo, not_done, perform, prepare,
@@ -22,4 +23,3 @@ pub use preparing::{
 pub use sh_builtin_outcome::{BuiltinRest, Invocation, JobWait, Leave, TextOrigin, TextRun};
 pub use sh_expand::Pending;
 pub use status::CommandStatus;
-pub use suspended::Suspended;

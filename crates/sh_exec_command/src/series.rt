@@ -2,6 +2,8 @@
 ghost use Rattle.std.specs.Prelude.{◌≡◌, IfOk, map};
 ghost use Rattle.sh_exec_command.specs.Expanding.{start_of};
 ghost use Rattle.sh_syntax.specs.declared.tree.Command.TheViews as view;
+ghost use Rattle.sh_exec_actions.specs.declared.action.Expanded.TheVariants.{Go};
+ghost use Rattle.sh_exec_actions.specs.declared.action.Move.TheVariants.{At};
 ghost use Rattle.sh_exec_command.specs.Series.{begun_with, give_by, give_turn, rest_of_series, header_in, header_of, header_turn, series_from, series_turn, values_turn, word_of_series};
 
 use crate::expanding::{expand, fail, fatal_message};
@@ -110,19 +112,32 @@ pub fn rest_of_series(series: ForLoop, status: CommandStatus) -> Active
     Active::Next(Action::AssignLoopVariable(series))
 }
 
+/// What a `for` does first whose values are these.
+fn begin_series(name: Text, values: Sequence<Text>, body: Shared<CompoundList>) -> Expanded
+    ensures { result ≡ Go (At (begun_with name values body)) }
+{
+    let series = ForLoop {
+        name,
+        values: Queue::new(values),
+        body,
+    };
+    Expanded::Go(Move::At(rest_of_series(series, CommandStatus::unexcused(0))))
+}
+
 /// The words of a `for` are expanded.
 fn expand_words(
     alloc: Global,
     command: Shared<Command>,
     pending: Option<Pending>,
-    series: ForLoop,
+    name: Text,
+    body: Shared<CompoundList>,
     wanted: Sequence<Wanted>,
     vars: &mut Vars,
     files: &Files,
 ) -> Result<Expanded, NoMemory>
     ensures { IfOk result (λ e.
-        record { environment = vars.new; outcome = e } ≡ series_from files.now command series.name
-        series.body (start_of vars.old wanted pending)) }
+        record { environment = vars.new; outcome = e } ≡ series_from files.now command name body
+        (start_of vars.old wanted pending)) }
 {
     match expand(alloc, wanted, pending, vars, files)? {
         Progress::Need { program, pending } => Ok(Expanded::Need {
@@ -130,16 +145,33 @@ fn expand_words(
             wants: ToExpand::ForWords(command),
             pending,
         }),
-        Progress::Fields(fields) => {
-            let ForLoop { name, body, .. } = series;
-            let series = ForLoop {
-                name,
-                values: Queue::new(fields),
-                body,
-            };
-            Ok(Expanded::Go(Move::At(rest_of_series(series, CommandStatus::unexcused(0)))))
-        },
+        Progress::Fields(fields) => Ok(begin_series(name, fields, body)),
         Progress::Fault(fault) => fail(alloc, fault),
+    }
+}
+
+/// The turn of a `for` with this header.
+fn values_turn(
+    alloc: Global,
+    command: Shared<Command>,
+    pending: Option<Pending>,
+    header: Header,
+    vars: &mut Vars,
+    files: &Files,
+) -> Result<Expanded, NoMemory>
+    ensures { IfOk result (λ e.
+        record { environment = vars.new; outcome = e } ≡ values_turn files.now vars.old command
+        pending header.name header.body header.values) }
+{
+    let Header { name, values, body } = header;
+    match values {
+        Values::Words(wanted) => {
+            expand_words(alloc, command, pending, name, body, wanted, vars, files)
+        },
+        Values::Parameters => {
+            let values = Sequence::from_vec(copies_of(alloc, vars.positional())?);
+            Ok(begin_series(name, values, body))
+        },
     }
 }
 
@@ -157,27 +189,9 @@ pub fn series_turn(
         record { environment = vars.new; outcome = e } ≡ series_turn files.now vars.old command
         pending) }
 {
-    let Some(Header { name, values, body }) = header_of(alloc, command.get())? else {
-        return Ok(Expanded::Go(Move::At(Active::Done(CommandStatus::unexcused(0)))));
-    };
-    match values {
-        Values::Words(wanted) => {
-            let series = ForLoop {
-                name,
-                values: Queue::new(Sequence::new(alloc)),
-                body,
-            };
-            expand_words(alloc, command, pending, series, wanted, vars, files)
-        },
-        Values::Parameters => {
-            let values = Sequence::from_vec(copies_of(alloc, vars.positional())?);
-            let series = ForLoop {
-                name,
-                values: Queue::new(values),
-                body,
-            };
-            Ok(Expanded::Go(Move::At(rest_of_series(series, CommandStatus::unexcused(0)))))
-        },
+    match header_of(alloc, command.get())? {
+        Some(header) => values_turn(alloc, command, pending, header, vars, files),
+        None => Ok(Expanded::Go(Move::At(Active::Done(CommandStatus::unexcused(0))))),
     }
 }
 

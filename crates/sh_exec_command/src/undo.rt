@@ -14,7 +14,7 @@ pub(crate) fn save(alloc: Global, vars: &Vars, name: &[u8]) -> Result<Saved, NoM
     ensures { IfOk result (λ saved. saved ≡ saved_of vars.now name.now) }
 {
     match vars.variable(name) {
-        Some(entry) => Ok(Saved::Variable(entry.copy(alloc)?)),
+        Some(entry) => Ok(Saved::Variable(entry.copy()?)),
         None => {
             let mut text = Text::new(alloc);
             text.extend_from_slice(name)?;

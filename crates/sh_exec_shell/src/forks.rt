@@ -24,8 +24,8 @@ use sh_base::sequence::{Sequence, Text};
 use sh_base::shared::Shared;
 use sh_builtin_shell::Shell;
 use sh_exec_actions::{
-    Action, Active, CommandStatus, ExpandedCommand, Finish, Launch, Move, Pending, PipelineWait,
-    Stages, Substitution, ToExpand, go_ahead,
+    Action, Active, Boxed, CommandStatus, ExpandedCommand, Finish, Launch, Move, Pending,
+    PipelineWait, Stages, Substitution, ToExpand, go_ahead,
 };
 use sh_exec_machine::{Forked, fork_process, lay_null_input};
 use sh_exec_parts::message::{cannot_fork, launch_line};
@@ -63,7 +63,7 @@ fn with_copy(
     shell: &Shell,
     frames: Frames,
     active: Active,
-) -> Result<Interpreter, NoMemory>
+) -> Result<Boxed<Interpreter>, NoMemory>
     ensures { IfOk result (λ made.
         made ≡ record {
           shell = forked_shell child shell.now;
@@ -71,7 +71,7 @@ fn with_copy(
         }) }
 {
     match shell.fork(alloc, child) {
-        Ok(forked) => Ok(interpreter_of(forked, frames, active)),
+        Ok(forked) => Boxed::new(alloc, interpreter_of(forked, frames, active)),
         Err(lack) => {
             drop(frames);
             drop(active);
@@ -87,7 +87,7 @@ fn put_program(
     ignores_failure: bool,
     prepared: ExpandedCommand,
     child: u32,
-) -> Result<Interpreter, NoMemory>
+) -> Result<Boxed<Interpreter>, NoMemory>
     ensures { IfOk result (λ made.
         made ≡ record {
           shell = forked_shell child shell.now;
@@ -148,7 +148,7 @@ fn begin_program(
     frames: &Frames,
     prepared: ExpandedCommand,
     child: u32,
-) -> Result<(Active, Interpreter), NoMemory>
+) -> Result<(Active, Boxed<Interpreter>), NoMemory>
     ensures wait { IfOk result (λ begun.
         begun.0 ≡ waiting (child ∷ []) (job_of shell.now frames.now (prepared.undo.command ∷ []))) }
     ensures made { IfOk result (λ begun.
@@ -181,7 +181,7 @@ pub(crate) fn fork_turn(
     shell: &Shell,
     frames: &Frames,
     prepared: ExpandedCommand,
-) -> Result<(Active, Option<Interpreter>), NoMemory>
+) -> Result<(Active, Option<Boxed<Interpreter>>), NoMemory>
     ensures state { (s : KernelState) → StandsAt kernel.old s → IfOk result (λ r.
         IsTurned kernel.new shell.now (Run.At r.0) r.1
         (inheriting (is_failure_ignored frames.now) (fork_turn frames.now s shell.now prepared))) }
@@ -382,7 +382,7 @@ fn put_stage(
     ignores_failure: bool,
     command: Shared<Command>,
     child: u32,
-) -> Result<Interpreter, NoMemory>
+) -> Result<Boxed<Interpreter>, NoMemory>
     ensures { IfOk result (λ made.
         made ≡ record {
           shell = forked_shell child shell.now;
@@ -411,7 +411,7 @@ fn stage_one(
     ignores_failure: bool,
     command: Shared<Command>,
     stages: Stages,
-) -> Result<(Active, Option<Interpreter>), NoMemory>
+) -> Result<(Active, Option<Boxed<Interpreter>>), NoMemory>
     ensures state { (s : KernelState) → StandsAt kernel.old s → IfOk result (λ r.
         IsTurned kernel.new shell.new (Run.At r.0) r.1
         (inheriting ignores_failure (stage_one s shell.old command stages))) }
@@ -529,7 +529,7 @@ fn stage_from(
     shell: &mut Shell,
     ignores_failure: bool,
     stages: Stages,
-) -> Result<(Active, Option<Interpreter>), NoMemory>
+) -> Result<(Active, Option<Boxed<Interpreter>>), NoMemory>
     ensures state { (s : KernelState) → StandsAt kernel.old s → IfOk result (λ r.
         IsTurned kernel.new shell.new (Run.At r.0) r.1
         (inheriting ignores_failure (stage_from s shell.old stages stages.commands))) }
@@ -552,7 +552,7 @@ pub(crate) fn stage_turn(
     shell: &mut Shell,
     frames: &Frames,
     stages: Stages,
-) -> Result<(Active, Option<Interpreter>), NoMemory>
+) -> Result<(Active, Option<Boxed<Interpreter>>), NoMemory>
     ensures state { (s : KernelState) → StandsAt kernel.old s → IfOk result (λ r.
         IsTurned kernel.new shell.new (Run.At r.0) r.1
         (inheriting (is_failure_ignored frames.now) (stage_turn frames.now s shell.old stages))) }
@@ -598,7 +598,7 @@ fn put_list(
     ignores_failure: bool,
     list: &AndOr,
     child: u32,
-) -> Result<Interpreter, NoMemory>
+) -> Result<Boxed<Interpreter>, NoMemory>
     ensures { IfOk result (λ made.
         made ≡ record {
           shell = forked_shell child shell.now;
@@ -635,7 +635,7 @@ pub(crate) fn list_turn(
     shell: &mut Shell,
     ignores_failure: bool,
     list: Shared<AndOr>,
-) -> Result<(Active, Option<Interpreter>), NoMemory>
+) -> Result<(Active, Option<Boxed<Interpreter>>), NoMemory>
     ensures state { (s : KernelState) → StandsAt kernel.old s → IfOk result (λ r.
         IsTurned kernel.new shell.new (Run.At r.0) r.1
         (inheriting ignores_failure (list_turn s shell.old list))) }
@@ -704,7 +704,7 @@ fn put_substitution(
     ignores_failure: bool,
     program: &CompoundList,
     child: u32,
-) -> Result<Interpreter, NoMemory>
+) -> Result<Boxed<Interpreter>, NoMemory>
     ensures { IfOk result (λ made.
         made ≡ record {
           shell = forked_shell child shell.now;
@@ -774,7 +774,7 @@ pub(crate) fn substitute_turn(
     program: Shared<CompoundList>,
     wants: ToExpand,
     pending: Pending,
-) -> Result<(Active, Option<Interpreter>), NoMemory>
+) -> Result<(Active, Option<Boxed<Interpreter>>), NoMemory>
     ensures state { (s : KernelState) → StandsAt kernel.old s → IfOk result (λ r.
         IsTurned kernel.new shell.now (run_of frames.new r.0) r.1
         (inside frames.old (inheriting (is_failure_ignored frames.old)

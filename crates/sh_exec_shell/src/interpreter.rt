@@ -14,7 +14,7 @@ use crate::turn::reduce;
 use sh_base::NoMemory;
 use sh_base::sequence::Text;
 use sh_builtin_shell::Shell;
-use sh_exec_actions::{Action, Active, CommandStatus, Frame};
+use sh_exec_actions::{Action, Active, Boxed, CommandStatus, Frame};
 use sh_exec_parts::{Copying, Rest};
 use sh_exec_turns::Frames;
 use sh_kernel::Kernel;
@@ -106,6 +106,16 @@ pub(crate) fn interpreter_of(shell: Shell, frames: Frames, active: Active) -> In
     }
 }
 
+/// What runs in a process that was made, if one was.
+fn unboxed(child: Option<Boxed<Interpreter>>) -> Option<Interpreter>
+    ensures { result ≡ child }
+{
+    match child {
+        Some(made) => Some(made.into_inner()),
+        None => None,
+    }
+}
+
 impl Interpreter {
     /// A shell that is about to read its text.
     pub fn reading(alloc: Global, shell: Shell, text: Text) -> Self
@@ -191,6 +201,6 @@ impl Interpreter {
         let active = drop_first(alloc, kernel, &mut self.shell, &mut self.frames, active)?;
         let (next, child) = reduce(alloc, kernel, &mut self.shell, &mut self.frames, active)?;
         drop(mem::replace(&mut self.active, root(&self.shell, &self.frames, next)));
-        Ok(child)
+        Ok(unboxed(child))
     }
 }

@@ -17,7 +17,9 @@ use crate::interpreter::Interpreter;
 use sh_base::NoMemory;
 use sh_base::shared::Shared;
 use sh_builtin_shell::{Functions, Shell};
-use sh_exec_actions::{Action, Active, CommandStatus, Expanded, ForLoop, Form, Pending, ToExpand};
+use sh_exec_actions::{
+    Action, Active, Boxed, CommandStatus, Expanded, ForLoop, Form, Pending, ToExpand,
+};
 use sh_exec_turns::{
     Frames, Round, answer_turn, ask_turn, assign_turn, case_turn, collect_turn, define_turn,
     end_turn, enter_list, give_turn, go_to, goes_on_reading, input_turn, interrupt, job_wait_turn,
@@ -66,7 +68,7 @@ fn expanded(
     shell: &Shell,
     frames: &mut Frames,
     expanded: Expanded,
-) -> Result<(Active, Option<Interpreter>), NoMemory>
+) -> Result<(Active, Option<Boxed<Interpreter>>), NoMemory>
     ensures state { (s : KernelState) → StandsAt kernel.old s → IfOk result (λ r.
         IsTurned kernel.new shell.now (run_of frames.new r.0) r.1
         (inside frames.old (inheriting (is_failure_ignored frames.old)
@@ -100,7 +102,7 @@ fn expand_place(
     frames: &mut Frames,
     wants: ToExpand,
     pending: Option<Pending>,
-) -> Result<(Active, Option<Interpreter>), NoMemory>
+) -> Result<(Active, Option<Boxed<Interpreter>>), NoMemory>
     ensures state { (s : KernelState) → StandsAt kernel.old s → IfOk result (λ r.
         IsTurned kernel.new shell.new (run_of frames.new r.0) r.1
         (inside frames.old (inheriting (is_failure_ignored frames.old)
@@ -179,7 +181,7 @@ fn act_place(
     shell: &mut Shell,
     frames: &mut Frames,
     place: Action,
-) -> Result<(Active, Option<Interpreter>), NoMemory>
+) -> Result<(Active, Option<Boxed<Interpreter>>), NoMemory>
     ensures state { (s : KernelState) → StandsAt kernel.old s → IfOk result (λ r.
         IsTurned kernel.new shell.new (run_of frames.new r.0) r.1
         (inside frames.old (inheriting (is_failure_ignored frames.old)
@@ -278,7 +280,7 @@ fn act_next(
     shell: &mut Shell,
     frames: &mut Frames,
     place: Action,
-) -> Result<(Active, Option<Interpreter>), NoMemory>
+) -> Result<(Active, Option<Boxed<Interpreter>>), NoMemory>
     ensures state { (s : KernelState) → StandsAt kernel.old s → IfOk result (λ r.
         IsTurned kernel.new shell.new (run_of frames.new r.0) r.1
         (inside frames.old (inheriting (is_failure_ignored frames.old)
@@ -309,7 +311,7 @@ fn act(
     shell: &mut Shell,
     frames: &mut Frames,
     active: Active,
-) -> Result<(Active, Option<Interpreter>), NoMemory>
+) -> Result<(Active, Option<Boxed<Interpreter>>), NoMemory>
     ensures state { (s : KernelState) → StandsAt kernel.old s → IfOk result (λ r.
         IsTurned kernel.new shell.new (run_of frames.new r.0) r.1
         (inside frames.old (inheriting (is_failure_ignored frames.old)
@@ -337,7 +339,7 @@ pub(crate) fn reduce(
     shell: &mut Shell,
     frames: &mut Frames,
     active: Active,
-) -> Result<(Active, Option<Interpreter>), NoMemory>
+) -> Result<(Active, Option<Boxed<Interpreter>>), NoMemory>
     ensures state { (s : KernelState) → StandsAt kernel.old s → IfOk result (λ r.
         IsTurned kernel.new shell.new (run_of frames.new r.0) r.1
         (reduce s shell.old [] (run_of frames.old active))) }

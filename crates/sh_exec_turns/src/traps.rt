@@ -18,7 +18,7 @@ use sh_base::sequence::Text;
 use sh_builtin_environment::copy_of_action;
 use sh_builtin_outcome::Ask;
 use sh_builtin_shell::Shell;
-use sh_exec_actions::{Action, Active, Form, Pending, Suspended, ToExpand};
+use sh_exec_actions::{Action, Active, Boxed, Form, Pending, ToExpand};
 use sh_exec_forms::{Frames, fatal_message, is_dropping, is_interrupt_next, pending_action};
 use sh_exec_parts::Rest;
 use sh_exec_parts::compound::compound_redirects;
@@ -219,7 +219,7 @@ pub fn is_called(kernel: &Kernel, shell: &Shell, place: &Action) -> bool
 fn suspend(alloc: Global, frames: &mut Frames, status: u8, place: Action) -> Result<(), NoMemory>
     ensures { OnOk result (frames.new ≡ Form.Interruption status place ∷ frames.old) }
 {
-    let place = Suspended::new(alloc, place)?;
+    let place = Boxed::new(alloc, place)?;
     frames.push(Form::Interruption(status, place))
 }
 

@@ -1,22 +1,22 @@
 -- An expansion that goes on with answers, and what it comes to.
-use Rattle.std.proofs.Common.{◌≡◌, ◌≤◌, ℕ, List, [], ◌∷◌, ◌++◌, length, take, refl, sym, ap, subst, ◌∙◌, append-nil, append_assoc}
-use Rattle.sh_expand.specs.Answers.{Needs, Pattern, Fails, Pending, expansion_with, fields_in, pattern_from, pattern_of, pattern_with, resumption, words_after, words_with}
+use Rattle.std.proofs.Common.{◌≡◌, ℕ, List, [], ◌∷◌, ◌++◌, refl, sym, ap, subst, ◌∙◌, append-nil, append_assoc}
+use Rattle.sh_expand.specs.Answers.{Pending, expansion_with, fields_in, pattern_from, pattern_of, pattern_with, resumption, words_after, words_with}
 use Rattle.sh_expand.specs.Expanding as expanding
 use Rattle.sh_expand.specs.Expansion.{Outcome, Need, Done, Stops}
 use Rattle.sh_expand.specs.FieldProgress.{IsStep, Waits, pattern_in}
 use Rattle.sh_expand.specs.Parts as words_in
-use Rattle.sh_expand.specs.Pendings.{IsAnswered, IsKept, IsNeeding, IsPatternKept, pattern_progress_of, patterned_by, progress_of, result_of}
+use Rattle.sh_expand.specs.Pendings.{IsAnswered, pattern_progress_of, patterned_by, progress_of, result_of}
 use Rattle.sh_expand.specs.Waiting.{IsWaiting}
 use Rattle.sh_expand.specs.WordProgress.{inputs}
 use Rattle.sh_expand.specs.declared.expansion.Expansion.{Expansion}
 use Rattle.sh_expand.specs.declared.expansion.Step.{Step}
 use Rattle.sh_expand.specs.declared.expansion.Step.TheVariants as step
+use Rattle.sh_expand.specs.declared.pending.Kept.{Kept}
 use Rattle.sh_expand.specs.declared.pending.PatternProgress.{PatternProgress}
 use Rattle.sh_expand.specs.declared.pending.Progress.{Progress}
 use Rattle.sh_expand.specs.declared.wanted.Wanted.{Wanted}
 use Rattle.sh_expand_parts.specs.declared.fault.Fault.{Fault}
 use Rattle.sh_files.specs.Nodes.{FileMap}
-use Rattle.sh_pattern.specs.declared.pattern_byte.PatternByte.{PatternByte}
 use Rattle.sh_syntax.specs.declared.tree.CompoundList.{CompoundList}
 use Rattle.sh_vars.specs.Environment.{Environment}
 
@@ -43,11 +43,6 @@ stopped files (Stops f e) fault env h = cc
 pub begins : (files : FileMap) (words : List Wanted) (start : Environment) (reached : Step) (e : Expansion) (env : Environment)
     → IsStep files reached e env (inputs words start []) → e.words.words ≡ words → Stands files words start [] reached e env []
 begins files words start reached e env h k = record { given = []; split = refl; is_step = h; same_words = k; same = λ answers. refl }
-
-pub continues : (files : FileMap) (program : CompoundList) (e : Expansion) (env : Environment) (start : Environment) (given rest : List (List ℕ))
-    → IsWaiting program e env start given → Stands files e.words.words start (given ++ rest) (step.Need program) e env rest
-continues files program e env start given rest w =
-    record { given = given; split = refl; is_step = (ap (expanding.result_of files) w.needs, w.waits); same_words = refl; same = w.same }
 
 -- ---- the next answer serves a need
 pub goes_on : (files : FileMap) (words : List Wanted) (start : Environment) (all : List (List ℕ)) (reached next : Step) (program : CompoundList) (e f : Expansion) (env after : Environment) (a : List ℕ) (whole rest : List (List ℕ))
@@ -116,10 +111,6 @@ pub answered_enough : (files : FileMap) (words : List Wanted) (start : Environme
 answered_enough files words start all reached e env rest n s = answered_by files words start all reached e env rest (is_end reached n) s
 
 -- ---- no answer is left
-pub none_left : {A : Type 0} (xs : List A) → length xs ≡ 0 → xs ≡ []
-none_left [] h = refl
-none_left (x ∷ xs) h = absurd (cc)
-
 all_given : (given rest all : List (List ℕ)) → rest ≡ [] → given ++ rest ≡ all → given ≡ all
 all_given given rest all n s = sym (append-nil given) ∙ ap (λ xs. given ++ xs) (sym n) ∙ s
 
@@ -146,12 +137,6 @@ pub begun : (files : FileMap) (words : List Wanted) (start : Environment) (reach
 begun files words start reached e env h k = answered_all files words start [] reached e env [] refl (begins files words start reached e env h k)
 
 -- ---- what is told and kept of it
-pub needing : (files : FileMap) (reached : Step) (e : Expansion) (env : Environment) (words : List Wanted) (start : Environment) (answers : List (List ℕ))
-    → IsAnswered files reached e env words start answers → IsNeeding reached e env start answers
-needing files (step.Need program) e env words start answers h = h.outcome
-needing files (step.Fields fields) e env words start answers h = tt
-needing files (step.Fault fault) e env words start answers h = tt
-
 waited : (program : CompoundList) (e : Expansion) (env : Environment) (words : List Wanted) (start : Environment) (answers : List (List ℕ))
     → e.words.words ≡ words → IsWaiting program e env start answers → words_with words start answers ≡ Need program env
 unfolding words_with
@@ -172,17 +157,10 @@ patterned files (step.Need program) e env words start answers p h = sym (ap patt
 patterned files (step.Fields fields) e env words start answers p h = sym (ap pattern_of h.outcome.1)
 patterned files (step.Fault fault) e env words start answers p h = sym (ap pattern_of h.outcome)
 
-pub keeps : (reached : Step) (p q : Pending) → p ≡ q → IsKept (progress_of reached p) q
-keeps (step.Need program) p q k = k
-keeps (step.Fields fields) p q k = tt
-keeps (step.Fault fault) p q k = tt
-
-pub keeps_pattern : (reached : Step) (pattern : List PatternByte) (p q : Pending) → p ≡ q → IsPatternKept (pattern_progress_of reached pattern p) q
-keeps_pattern (step.Need program) pattern p q k = k
-keeps_pattern (step.Fields fields) pattern p q k = tt
-keeps_pattern (step.Fault fault) pattern p q k = tt
-
 -- ---- it goes on with the answers that it has not had yet
+abbrev pub pending_of : Kept → Pending
+pending_of k = record { words = k.expansion.words.words; start = k.start; answers = k.answers }
+
 pub resumed : (files : FileMap) (reached : Step) (e : Expansion) (env : Environment) (words : List Wanted) (start : Environment) (given more answers : List (List ℕ)) (p q : Pending) (x : Progress)
     → IsAnswered files reached e env words start (given ++ more) → given ++ more ≡ answers → q ≡ record { words = words; start = start; answers = answers }
     → x ≡ progress_of reached p → result_of x env ≡ fields_in files q

@@ -1,9 +1,8 @@
 -- What an expansion comes to that goes on with its answers, and what is kept of it where it needs another one.
-use Rattle.std.specs.Prelude.{◌≡◌, ℕ, List, [], map}
+use Rattle.std.specs.Prelude.{◌≡◌, ℕ, List, []}
 use Rattle.sh_expand.specs.Answers.{Patterned, Needs, Pattern, Fails, Pending, words_with}
 use Rattle.sh_expand.specs.Expanding as expanding
 use Rattle.sh_expand.specs.Expansion.{Done, Stops}
-use Rattle.sh_expand.specs.FieldProgress.{HasWords, texts_of}
 use Rattle.sh_expand.specs.Waiting.{IsWaiting}
 use Rattle.sh_expand.specs.WordProgress.{state_of}
 use Rattle.sh_expand.specs.declared.expansion.Expansion.{Expansion}

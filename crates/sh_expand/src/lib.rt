@@ -3,7 +3,8 @@
 //! [`Expansion::start`] expands words in order: tilde, parameters, command substitutions and arithmetic, from
 //! left to right. Then all of them are split into fields, by IFS as it is then, and pathnames are expanded,
 //! by the files as they are then. Then quotes are removed. Where the output of a command substitution is
-//! needed, the expansion stops with [`Step::Need`], and [`Expansion::resume`] goes on from there.
+//! needed, the expansion stops with [`Step::Need`], and [`Expansion::resume`] goes on from there. A [`Pending`] keeps an expansion
+//! that has stopped, with the answers that come for it, from one turn of a shell to another one.
 #![tactic(auto)]
 
 mod expansion;

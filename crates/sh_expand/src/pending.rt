@@ -24,10 +24,17 @@ use std::marker::Model;
 /// expansion is kept as it stands, and the variables as they were then.
 #[derive(Drop)]
 pub struct Pending {
+    kept: Box<Kept>,
+}
+
+/// What is kept of an expansion that waits. It is large, and what waits is handed on in each turn: so it stands in a box.
+#[derive(Drop)]
+struct Kept {
     program: Shared<CompoundList>,
     expansion: Expansion,
     start: Vars,
-    reached: Vars,
+    /// The variables that the expansion has reached.
+    vars: Vars,
     answers: Sequence<Text>,
     /// How many of the answers the expansion has had.
     taken: usize,
@@ -45,11 +52,12 @@ impl Model for Pending {
 
     ghost coded = { Prim.hlevel (codes, map_code, parts_row.the_row.coded) };
 
-    ghost view = { λ p. record { words = p.expansion.words.words; start = p.start; answers = p.answers } };
+    ghost view = { λ p.
+        record { words = p.kept.value.expansion.words.words; start = p.kept.value.start; answers = p.kept.value.answers } };
 
     ghost invariant = { λ p.
-        IsWaiting p.program p.expansion p.reached p.start (take p.taken p.answers)
-        × (p.taken ≤ length p.answers) };
+        IsWaiting p.kept.value.program p.kept.value.expansion p.kept.value.vars p.kept.value.start (take p.kept.value.taken p.kept.value.answers)
+        × (p.kept.value.taken ≤ length p.kept.value.answers) };
 }
 
 /// What an expansion to fields comes to in a turn.
@@ -128,8 +136,9 @@ fn go_through(
     Ok(Reached { expansion, step })
 }
 
-/// What is kept of an expansion that needs this program's output, once it has had these answers.
-fn kept(
+/// An expansion that waits for this program's output, once it has had these answers.
+fn waiting(
+    alloc: Global,
     program: &Shared<CompoundList>,
     expansion: Expansion,
     start: Vars,
@@ -140,21 +149,23 @@ fn kept(
     ensures { IfOk result (λ p.
         p ≡ record { words = expansion.words.words; start = start; answers = answers }) }
 {
-    let program = program.share()?;
-    let reached = vars.copy()?;
     let taken = answers.len();
-    Ok(Pending {
-        program,
+    let kept = Kept {
+        program: program.share()?,
         expansion,
         start,
-        reached,
+        vars: vars.copy()?,
         answers,
         taken,
+    };
+    Ok(Pending {
+        kept: Box::new(alloc, kept)?,
     })
 }
 
 /// What an expansion to fields comes to that has come to this step.
 fn fields(
+    alloc: Global,
     reached: Reached,
     start: Vars,
     answers: Sequence<Text>,
@@ -168,7 +179,7 @@ fn fields(
     let Reached { expansion, step } = reached;
     match step {
         Step::Need(program) => {
-            let pending = kept(&program, expansion, start, answers, vars)?;
+            let pending = waiting(alloc, &program, expansion, start, answers, vars)?;
             Ok(Progress::Need { program, pending })
         }
         Step::Fields(fields) => Ok(Progress::Fields(fields)),
@@ -192,7 +203,7 @@ fn pattern(
     let Reached { expansion, step } = reached;
     match step {
         Step::Need(program) => {
-            let pending = kept(&program, expansion, start, answers, vars)?;
+            let pending = waiting(alloc, &program, expansion, start, answers, vars)?;
             Ok(PatternProgress::Need { program, pending })
         }
         Step::Fields(_) => {
@@ -223,7 +234,7 @@ impl Pending {
     {
         let start = vars.copy()?;
         let reached = begun(alloc, words, vars, files)?;
-        fields(reached, start, Sequence::new(alloc), vars)
+        fields(alloc, reached, start, Sequence::new(alloc), vars)
     }
 
     /// Goes on with the expansion to fields, with the answers that it has not had yet, in the files as they are now. The variables
@@ -237,18 +248,18 @@ impl Pending {
         ensures result { IfOk result (λ p. result_of p vars.new ≡ fields_in files.now self) }
         ensures kept { IfOk result (λ p. IsKept p self) }
     {
-        let Pending {
+        let Kept {
             program,
             expansion,
             start,
-            reached,
+            vars: reached,
             answers,
             taken,
-        } = self;
+        } = Box::into_inner(self.kept);
         *vars = reached;
         let more = &answers.as_slice()[taken..];
         let reached = go_through(alloc, program, expansion, more, vars, files)?;
-        fields(reached, start, answers, vars)
+        fields(alloc, reached, start, answers, vars)
     }
 
     /// Begins the expansion of words, the first of which is a pattern (XCU 2.9.4.3, 2.14.1). The only error is want of memory; what
@@ -280,56 +291,45 @@ impl Pending {
         ensures result { IfOk result (λ p. patterned_by p vars.new ≡ pattern_from self) }
         ensures kept { IfOk result (λ p. IsPatternKept p self) }
     {
-        let Pending {
+        let Kept {
             program,
             expansion,
             start,
-            reached,
+            vars: reached,
             answers,
             taken,
-        } = self;
+        } = Box::into_inner(self.kept);
         *vars = reached;
         let more = &answers.as_slice()[taken..];
         let reached = go_through(alloc, program, expansion, more, vars, files)?;
         pattern(alloc, reached, start, answers, vars)
     }
 
-    /// The expansion with one answer more: what the program wrote that is needed. The only error is want of memory.
+    /// The expansion with one answer more: what the program wrote that is needed. The only error is want of memory, with which the
+    /// expansion is given up.
     pub fn answer(self, answer: Text) -> Result<Pending, AllocError>
         ensures { IfOk result (λ next.
             next ≡ record self { answers = self.answers ++ answer ∷ [] }) }
     {
-        let Pending {
-            program,
-            expansion,
-            start,
-            reached,
-            answers,
-            taken,
-        } = self;
-        let mut answers = answers;
-        answers.push(answer)?;
-        Ok(Pending {
-            program,
-            expansion,
-            start,
-            reached,
-            answers,
-            taken,
-        })
+        let mut kept = self.kept;
+        kept.answers.push(answer)?;
+        Ok(Pending { kept })
     }
 
     /// A copy. The only error is want of memory.
     pub fn copy(&self, alloc: Global) -> Result<Pending, AllocError>
         ensures { IfOk result (λ copy. copy ≡ self.now) }
     {
+        let kept = Kept {
+            program: self.kept.program.share()?,
+            expansion: self.kept.expansion.copy(alloc)?,
+            start: self.kept.start.copy()?,
+            vars: self.kept.vars.copy()?,
+            answers: Sequence::from_vec(copies_of(alloc, self.kept.answers.as_slice())?),
+            taken: self.kept.taken,
+        };
         Ok(Pending {
-            program: self.program.share()?,
-            expansion: self.expansion.copy(alloc)?,
-            start: self.start.copy()?,
-            reached: self.reached.copy()?,
-            answers: Sequence::from_vec(copies_of(alloc, self.answers.as_slice())?),
-            taken: self.taken,
+            kept: Box::new(alloc, kept)?,
         })
     }
 }

@@ -13,7 +13,7 @@ ghost use Rattle.sh_expand_parts.specs.Drafts.{concatenation, plain, quoted_draf
 ghost use Rattle.sh_expand_parts.specs.Removals.{without_match};
 
 use crate::context::Context;
-use crate::draft::{Draft, joiner, shown, text_draft};
+use crate::draft::{Draft, shown, text_draft};
 use crate::fault::{ArithmeticError, Fault};
 use crate::removal::removed;
 use crate::value::{Value, signed_decimal};
@@ -132,7 +132,7 @@ fn behind(
 ) -> Result<Closed, AllocError>
     ensures { IfOk result (λ c. closing c vars.now ≡ behind saved context vars.now value.now) }
 {
-    let items = shown(alloc, context, joiner(vars), value)?;
+    let items = shown(alloc, context, vars, value)?;
     saved.append(&items)?;
     Ok(Closed::Goes(saved))
 }

@@ -117,7 +117,7 @@ pub(crate) fn push_field(items: &mut Sequence<Item>, bytes: &[u8]) -> Result<(),
 }
 
 /// The byte between joined parameters (XCU 2.5.2).
-pub(crate) fn joiner(vars: &Vars) -> Option<u8>
+fn joiner(vars: &Vars) -> Option<u8>
     ensures { result ≡ joiner vars.now }
 {
     match vars.get(b"IFS") {
@@ -256,15 +256,15 @@ fn all_parameters(
 pub(crate) fn shown(
     alloc: Global,
     context: Context,
-    between: Option<u8>,
+    vars: &Vars,
     value: &Value,
 ) -> Result<Draft, AllocError>
-    ensures { IfOk result (λ d. d ≡ value_draft context between value.now) }
+    ensures { IfOk result (λ d. d ≡ value_draft context (joiner vars.now) value.now) }
 {
     match value {
         Value::Unset => Ok(Draft::new(alloc)),
         Value::Scalar(text) => text_draft(alloc, context, text.as_slice()),
         Value::Each(texts) => each_parameter(alloc, context, texts.as_slice()),
-        Value::Joined(texts) => all_parameters(alloc, context, between, texts.as_slice()),
+        Value::Joined(texts) => all_parameters(alloc, context, joiner(vars), texts.as_slice()),
     }
 }

@@ -7,7 +7,7 @@ ghost use Rattle.sh_expand_parts.specs.Values.{name_of, value_in};
 
 use crate::closing::Purpose;
 use crate::context::Context;
-use crate::draft::{Draft, joiner, shown, text_draft};
+use crate::draft::{Draft, shown, text_draft};
 use crate::fault::Fault;
 use crate::value::{Value, decimal, name_of};
 use sh_base::sequence::Text;
@@ -94,7 +94,7 @@ fn unset(alloc: Global, parameter: &Parameter) -> Result<Begun, AllocError>
 fn adds(alloc: Global, vars: &Vars, context: Context, value: &Value) -> Result<Begun, AllocError>
     ensures { IfOk result (λ b. b ≡ Begun.Adds (value_draft context (joiner vars.now) value.now)) }
 {
-    Ok(Begun::Adds(shown(alloc, context, joiner(vars), value)?))
+    Ok(Begun::Adds(shown(alloc, context, vars, value)?))
 }
 
 /// `$p` or `${p}` (XCU 2.6.2). It is a fault under `set -u` where the parameter isn't set. The only error is

@@ -141,7 +141,7 @@ fn undo(alloc: Global, vars: &mut Vars, name: &[u8]) -> Result<(), RowFault> {
     let Some(entry) = vars.variable(name) else {
         return Ok(());
     };
-    let before = entry.copy(alloc)?;
+    let before = entry.copy()?;
     for word in ["set", "export", "readonly"] {
         if let Some(Err(_)) = change(vars, word.as_bytes(), name) {
             drop(before);

@@ -2,16 +2,24 @@
 ghost use Rattle.std.specs.Prelude.{◌≡◌, IfOk, option_map, true};
 
 use sh_base::sequence::Text;
+use sh_base::shared::Shared;
 use std::alloc::{AllocError, Global};
 use std::marker::Model;
 
-/// A variable with its name and its attributes (XCU 2.5.3).
+/// A variable with its name and its attributes (XCU 2.5.3). Copies share the texts, which no call changes.
 #[derive(Drop)]
 pub struct Entry {
-    name: Text,
-    value: Option<Text>,
+    name: Shared<Text>,
+    value: Option<Shared<Text>>,
     exported: bool,
     read_only: bool,
+}
+
+/// A text that several variables can have.
+pub(crate) fn shared_text(alloc: Global, text: &[u8]) -> Result<Shared<Text>, AllocError>
+    ensures { IfOk result (λ shared. shared ≡ text.now) }
+{
+    Shared::new(alloc, Text::copy_of(alloc, text)?)
 }
 
 impl Model for Entry {
@@ -32,7 +40,7 @@ impl Entry {
         ensures { IfOk result (λ entry. entry ≡ (name.now, absent)) }
     {
         Ok(Entry {
-            name: Text::copy_of(alloc, name)?,
+            name: shared_text(alloc, name)?,
             value: None,
             exported: false,
             read_only: false,
@@ -50,23 +58,23 @@ impl Entry {
         ensures { IfOk result (λ entry. entry ≡ (name.now, changeable value.now exported)) }
     {
         Ok(Entry {
-            name: Text::copy_of(alloc, name)?,
-            value: Some(Text::copy_of(alloc, value)?),
+            name: shared_text(alloc, name)?,
+            value: Some(shared_text(alloc, value)?),
             exported,
             read_only: false,
         })
     }
 
     /// A copy of the variable with its name. The only error is want of memory.
-    pub fn copy(&self, alloc: Global) -> Result<Entry, AllocError>
+    pub fn copy(&self) -> Result<Entry, AllocError>
         ensures { IfOk result (λ entry. entry ≡ self.now) }
     {
         let value = match &self.value {
-            Some(value) => Some(Text::copy_of(alloc, value.as_slice())?),
+            Some(value) => Some(value.share()?),
             None => None,
         };
         Ok(Entry {
-            name: Text::copy_of(alloc, self.name.as_slice())?,
+            name: self.name.share()?,
             value,
             exported: self.exported,
             read_only: self.read_only,
@@ -74,7 +82,7 @@ impl Entry {
     }
 
     /// Assigns to the variable, and exports it if asked.
-    pub(crate) fn assign(&mut self, value: Text, export: bool)
+    pub(crate) fn assign(&mut self, value: Shared<Text>, export: bool)
         ensures { self.new ≡ (self.old.0, after_assignment self.old.1 value export) }
     {
         self.value = Some(value);
@@ -99,7 +107,7 @@ impl Entry {
     pub fn name(&self) -> &[u8]
         ensures { result.now ≡ self.now.0 }
     {
-        self.name.as_slice()
+        self.name.get().as_slice()
     }
 
     /// The variable's value, `None` where it is unset.
@@ -107,7 +115,7 @@ impl Entry {
         ensures { option_map (λ value. value.now) result ≡ self.now.1.value }
     {
         match &self.value {
-            Some(value) => Some(value.as_slice()),
+            Some(value) => Some(value.get().as_slice()),
             None => None,
         }
     }

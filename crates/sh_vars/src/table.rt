@@ -7,9 +7,8 @@ ghost use Rattle.sh_vars.specs.Environment.{after_assignment, variable_or_absent
 ghost use Rattle.sh_vars.specs.Places.{IsPlace, IsHeld};
 ghost use Rattle.sh_vars.specs.Starting.{changeable, starting_variables};
 
-use crate::entries::Entry;
+use crate::entries::{Entry, shared_text};
 use sh_base::separator::default_separators;
-use sh_base::sequence::Text;
 use std::alloc::{AllocError, Global};
 use std::marker::Model;
 
@@ -150,7 +149,7 @@ impl Table {
             (after_assignment (variable_or_absent self.old name.now) value.now export) else
             self.old) }
     {
-        let value = Text::copy_of(alloc, value)?;
+        let value = shared_text(alloc, value)?;
         let index = hold(&mut self.entries, alloc, name)?;
         self.entries[index].assign(value, export);
         Ok(())
@@ -203,7 +202,7 @@ fn copy_entries(alloc: Global, entries: &[Entry]) -> Result<Vec<Entry>, AllocErr
 {
     let mut copies = Vec::with_capacity(alloc, entries.len())?;
     for entry in entries {
-        copies.push(entry.copy(alloc)?)?;
+        copies.push(entry.copy()?)?;
     }
     Ok(copies)
 }

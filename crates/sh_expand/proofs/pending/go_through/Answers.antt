@@ -1,5 +1,6 @@
 use Rattle.std.proofs.Common.{◌++◌, ◌∷◌, ◌∙◌, ap, sym}
-use Rattle.sh_expand.proofs.Waiting.{answered_all, answered_enough, goes_on, none_left}
+use Rattle.sh_expand.proofs.Waiting.{answered_all, answered_enough, goes_on}
+use Rattle.std.proofs.lemmas.List.{nil_from_length}
 use Rattle.sh_expand.proofs.pending.go_through.Goals as goal
 
 pub returns-in_default-step : goal.returns-in_default-step
@@ -17,4 +18,4 @@ answers-preserved c start given w =
 pub returns : goal.returns
 returns c start given w =
     answered_all c.args.files.now c.args.expansion.words.words start (given ++ c.args.answers.now) c.answers.step c.answers.expansion c.answers.vars c.answers.rest.now
-    (none_left c.answers.rest.now c.in_default.ensures.cases) (c.answers.invariant start given w)
+    (nil_from_length c.answers.rest.now c.in_default.ensures.cases) (c.answers.invariant start given w)

@@ -1,26 +1,26 @@
-//! What a shell takes up again.
+//! A value in a place of its own.
 ghost use Rattle.std.specs.Prelude.{◌≡◌, IfOk};
 
 use sh_base::NoMemory;
 use std::alloc::Global;
 use std::marker::Model;
 
-/// What a shell goes on with after something that comes before it. It has a place of its own, so that what holds it stays small; a contract sees
-/// nothing but the value.
+/// A value in a place of its own, so that what holds it stays small: an action that comes behind that of a trap, or what runs in a new
+/// process. A contract sees nothing but the value.
 #[derive(Drop)]
-pub struct Suspended<T> {
+pub struct Boxed<T> {
     inner: Box<T>,
 }
 
-impl<T> Model for Suspended<T> {
+impl<T> Model for Boxed<T> {
     ghost Value = { T };
 
     ghost coded = { T.code };
 
-    ghost view = { λ s. s.inner.value };
+    ghost view = { λ b. b.inner.value };
 }
 
-impl<T> Suspended<T> {
+impl<T> Boxed<T> {
     /// The value, lent. Takes no memory.
     pub fn get(&self) -> &T
         ensures { result.now ≡ self.now }
@@ -36,12 +36,12 @@ impl<T> Suspended<T> {
     }
 }
 
-impl<T: Drop> Suspended<T> {
-    /// A value that is taken up later. The only error is want of memory; the value is gone then.
+impl<T: Drop> Boxed<T> {
+    /// Puts a value in a place of its own. The only error is want of memory; the value is gone then.
     pub fn new(alloc: Global, value: T) -> Result<Self, NoMemory>
-        ensures { IfOk result (λ suspended. suspended ≡ value) }
+        ensures { IfOk result (λ boxed. boxed ≡ value) }
     {
         let inner = Box::new(alloc, value)?;
-        Ok(Suspended { inner })
+        Ok(Boxed { inner })
     }
 }
