@@ -8,9 +8,11 @@ import tempfile
 TOP = os.path.dirname(os.path.dirname(os.path.abspath(__file__)))
 
 # Runs a program and tells the most memory that it had, in KiB. A process that Python starts counts the memory of Python, which it has
-# until it runs the program; one that this small program starts doesn't.
+# until it runs the program; one that this small program starts doesn't. Addresses aren't chosen at random: else two runs of one
+# program differ by some 100 KiB, by the pages that are touched.
 MEASURE = r"""
 #include <stdio.h>
+#include <sys/personality.h>
 #include <sys/resource.h>
 #include <sys/wait.h>
 #include <unistd.h>
@@ -18,7 +20,7 @@ int main(int count, char **words) {
     struct rusage used;
     int status;
     pid_t child = fork();
-    if (child == 0) { execvp(words[1], words + 1); _exit(127); }
+    if (child == 0) { personality(ADDR_NO_RANDOMIZE); execvp(words[1], words + 1); _exit(127); }
     if (child < 0 || wait4(child, &status, 0, &used) != child) return 126;
     fprintf(stderr, "%ld\n", used.ru_maxrss);
     return WIFEXITED(status) ? WEXITSTATUS(status) : 125;

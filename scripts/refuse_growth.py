@@ -252,7 +252,8 @@ class Program:
     def refuse_all(self, words, told, events):
         """Refuses each growth in turn; the number of refusals, and of bad ones."""
         whole = self.run(words, events)
-        fronts = {whole[1]}
+        # (before the first event nothing is written; where the words ask for help alone, there are no events)
+        fronts = {b"", whole[1]}
         refusals = bad = growth = quiet = 0
         while quiet < QUIET:
             growth += 1
