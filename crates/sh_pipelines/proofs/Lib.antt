@@ -1,0 +1,4 @@
+pub mod Feeding
+pub mod Keeping
+pub mod Output
+pub mod Laws
