@@ -1,7 +1,7 @@
 -- What holds of the stages of a pipeline, and is kept by each of their steps.
 use Rattle.std.specs.Prelude.{◌≡◌, ℕ, ◌≤◌, List, [], ◌∷◌, ◌++◌, length, Bool, true, is_some, Option, Some, None}
 use Rattle.std.proofs.Common.{refl, sym, ap, ◌∙◌, subst, arith, zero-le, append_assoc, append-nil, length-append}
-use Rattle.sh_pipelines.specs.Pipelines.{Ends, HasWritten, Idles, Reads, ReadsEnd, Stage, StageStep, Stops, Writes, answered, course_of, has_ended, written_by}
+use Rattle.sh_pipelines.specs.Pipelines.{Ends, Idles, Reads, ReadsEnd, Stage, StageStep, Stops, Writes, WritesAll, answered, course_of, has_ended, written_by}
 use Rattle.sh_stock.specs.Asking.{Meaning}
 use Rattle.sh_stock.specs.Filtering.{AllFit, Begins, Fits, IsFilter, KeepsParts, ended_after, read_after, written_after}
 use Rattle.sh_stock.specs.declared.asking.Answer.{Answer}
@@ -157,8 +157,8 @@ module _ {S : Type 0} (m : Meaning S) where
       answered_fed given all s (Bytes []) fed (λ status h. let both : Read count ≡ End status = sym asks ∙ h in cc)
       (subst (λ (a : Ask). Fits a c.ended (Bytes [])) (sym asks) (zero-le, λ h. refl)) ([], append-nil (c.read ++ []) ∙ same) (λ h. (no_more, same))
   stage_fed given all s t (Writes bytes rest asks) fed = writes_fed given all s bytes rest fed asks
-  stage_fed given all s t (HasWritten asks) fed =
-      done_fed given all s fed (λ status h. let both : Write s.gone ≡ End status = sym asks ∙ h in cc) (subst (λ (a : Ask). Fits a (course_of m s).ended Done) (sym asks) tt)
+  stage_fed given all s t (WritesAll rest asks) fed =
+      done_fed given all s fed (λ status h. let both : Write (s.gone ++ rest) ≡ End status = sym asks ∙ h in cc) (subst (λ (a : Ask). Fits a (course_of m s).ended Done) (sym asks) tt)
   stage_fed given all s t (Stops asks) fed =
       done_fed given all s fed (λ status h. let both : Stop ≡ End status = sym asks ∙ h in cc) (subst (λ (a : Ask). Fits a (course_of m s).ended Done) (sym asks) tt)
   stage_fed given all s t (Idles asks) fed =

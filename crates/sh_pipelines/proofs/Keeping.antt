@@ -2,7 +2,7 @@
 use Rattle.std.specs.Prelude.{◌≡◌, ℕ, List, [], ◌∷◌, ◌++◌, Bool, true, Option}
 use Rattle.std.proofs.Common.{refl, sym, ap, ◌∙◌, subst, append_assoc}
 use Rattle.sh_pipelines.proofs.Feeding.{AreFed, IsFed, Nothing, StaysAll, all_fed_more, answer_goes_on, begins_itself, ended_asks, stage_fed}
-use Rattle.sh_pipelines.specs.Pipelines.{AreAtStart, Behind, Ends, HasWritten, Here, Idles, IsAtStart, NoSteps, Reads, ReadsEnd, Stage, StageStep, Step, Steps, Stops, Then, Writes, course_of, filterings_of, has_ended, written_by}
+use Rattle.sh_pipelines.specs.Pipelines.{AreAtStart, Behind, Ends, Here, Idles, IsAtStart, NoSteps, Reads, ReadsEnd, Stage, StageStep, Step, Steps, Stops, Then, Writes, WritesAll, course_of, filterings_of, has_ended, written_by}
 use Rattle.sh_stock.specs.Asking.{Meaning}
 use Rattle.sh_stock.specs.Filtering.{AllFit, Begins, Course, Filtering, KeepsFilterLaws, course, first_course}
 use Rattle.sh_stock.specs.declared.asking.Answer.{Answer}
@@ -15,7 +15,7 @@ module _ {S : Type 0} (m : Meaning S) where
   goes_on given all s t (Reads count byte bytes asks few begins) fed = answer_goes_on m (course_of m s).ask (course_of m s).written s.gone fed.under_way
   goes_on given all s t (ReadsEnd count asks whole no_more) fed = answer_goes_on m (course_of m s).ask (course_of m s).written s.gone fed.under_way
   goes_on given all s t (Writes bytes rest asks) fed = (bytes, append_assoc (course_of m s).written s.gone bytes)
-  goes_on given all s t (HasWritten asks) fed = answer_goes_on m (course_of m s).ask (course_of m s).written s.gone fed.under_way
+  goes_on given all s t (WritesAll rest asks) fed = answer_goes_on m (course_of m s).ask (course_of m s).written s.gone fed.under_way
   goes_on given all s t (Stops asks) fed = answer_goes_on m (course_of m s).ask (course_of m s).written s.gone fed.under_way
   goes_on given all s t (Idles asks) fed = answer_goes_on m (course_of m s).ask (course_of m s).written s.gone fed.under_way
   goes_on given all s t (Ends status asks) fed = begins_itself (written_by m s)
@@ -27,7 +27,7 @@ module _ {S : Type 0} (m : Meaning S) where
   stays given all s t (Reads count byte bytes asks few begins) fed h = let e = asks_end given all s (Read count) fed h asks in let both = e.1 in cc
   stays given all s t (ReadsEnd count asks whole no_more) fed h = let e = asks_end given all s (Read count) fed h asks in let both = e.1 in cc
   stays given all s t (Writes bytes rest asks) fed h = let e = asks_end given all s (Write (s.gone ++ (bytes ++ rest))) fed h asks in let both = e.1 in cc
-  stays given all s t (HasWritten asks) fed h = let e = asks_end given all s (Write s.gone) fed h asks in let both = e.1 in cc
+  stays given all s t (WritesAll rest asks) fed h = let e = asks_end given all s (Write (s.gone ++ rest)) fed h asks in let both = e.1 in cc
   stays given all s t (Stops asks) fed h = let e = asks_end given all s Stop fed h asks in let both = e.1 in cc
   stays given all s t (Idles asks) fed h = let e = asks_end given all s Idle fed h asks in let both = e.1 in cc
   stays given all s t (Ends status asks) fed h = (refl, refl)
@@ -47,7 +47,7 @@ module _ {S : Type 0} (m : Meaning S) where
   stage_filter given all s t (Reads count byte bytes asks few begins) = refl
   stage_filter given all s t (ReadsEnd count asks whole no_more) = refl
   stage_filter given all s t (Writes bytes rest asks) = refl
-  stage_filter given all s t (HasWritten asks) = refl
+  stage_filter given all s t (WritesAll rest asks) = refl
   stage_filter given all s t (Stops asks) = refl
   stage_filter given all s t (Idles asks) = refl
   stage_filter given all s t (Ends status asks) = refl

@@ -54,14 +54,14 @@ AreAtStart m filtering [] = Unit {0}
 AreAtStart m filtering (s ∷ stages) = IsAtStart m filtering s × AreAtStart m filtering stages
 
 -- a step of one stage, which has been given these bytes so far, and no more are to come where `all` is true. It reads some of them that it
--- hasn't read; or the end of file, which is there once it has read all and no more are to come. Some of what it writes goes, or all of it
--- has. It is stopped and continued, idles, or ends
+-- hasn't read; or the end of file, which is there once it has read all and no more are to come. Some of what it writes goes, or all that is
+-- left of it. It is stopped and continued, idles, or ends
 pub data StageStep {S : Type 0} (m : Meaning S) (given : List ℕ) (all : Bool) (s : Stage S) : Stage S → Type 0 where
   Reads : (count byte : ℕ) (bytes : List ℕ) → (course_of m s).ask ≡ Read count → length (byte ∷ bytes) ≤ count
       → Begins ((course_of m s).read ++ byte ∷ bytes) given → StageStep m given all s (answered s (Bytes (byte ∷ bytes)))
   ReadsEnd : (count : ℕ) → (course_of m s).ask ≡ Read count → (course_of m s).read ≡ given → all ≡ true → StageStep m given all s (answered s (Bytes []))
   Writes : (bytes rest : List ℕ) → (course_of m s).ask ≡ Write (s.gone ++ (bytes ++ rest)) → StageStep m given all s (record s { gone = s.gone ++ bytes })
-  HasWritten : (course_of m s).ask ≡ Write s.gone → StageStep m given all s (answered s Done)
+  WritesAll : (rest : List ℕ) → (course_of m s).ask ≡ Write (s.gone ++ rest) → StageStep m given all s (answered s Done)
   Stops : (course_of m s).ask ≡ Stop → StageStep m given all s (answered s Done)
   Idles : (course_of m s).ask ≡ Idle → StageStep m given all s (answered s Done)
   Ends : (status : ℕ) → (course_of m s).ask ≡ End status → StageStep m given all s (record s { end = Some status })

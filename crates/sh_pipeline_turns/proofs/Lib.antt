@@ -1,0 +1,5 @@
+pub mod Slots
+pub mod Reading
+pub mod Writing
+pub mod FileWriting
+pub mod Turning
