@@ -1,5 +1,5 @@
 -- What is read begins with an action.
-use Rattle.std.proofs.Common.{ℕ, zero, suc, ◌+◌, ◌-◌, List, [], ◌∷◌, ◌++◌, length, take, drop, Option, Some, None, true, false, ◌&&◌}
+use Rattle.std.proofs.Common.{ℕ, zero, suc, ◌-◌, List, [], ◌∷◌, ◌++◌, length, take, drop, Option, Some, None, true, false, ◌&&◌}
 use Rattle.std.specs.Prelude.{Ok, Err, nat_lt, if◌then◌else◌}
 use Rattle.std.specs.List.{list_all}
 use Rattle.std.specs.Option.{unwrap_or}
@@ -17,7 +17,7 @@ use Rattle.sh_parse_actions.specs.declared.leaf.Leaf.{Leaf}
 use Rattle.sh_parse_actions.specs.declared.leaf.Leaf.TheVariants as leaf
 use Rattle.sh_parse_words.specs.Meaning.{syntax_of}
 use Rattle.sh_parse_documents.specs.Documents.{place_at}
-use Rattle.sh_parse_documents.specs.Stream.{AtEnd, Cut, Ending, Items, items_of, waiting_behind}
+use Rattle.sh_parse_documents.specs.Stream.{AtEnd, Cut, Ending, items_of, waiting_behind}
 use Rattle.sh_parse_documents.specs.Waiting.{Waiting, behind_token, due_at, nothing}
 use Rattle.sh_parse_documents.specs.declared.document.Document.{Document}
 use Rattle.sh_parse_documents.specs.declared.item.Item.{Item}

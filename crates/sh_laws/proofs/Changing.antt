@@ -172,6 +172,14 @@ module _ (s : KernelState) (pid : ℕ) (directory : List ℕ) (born : pid < next
           makers = c.makers;
           ended = c.ended;
         };
+        reaches = record {
+          pipes = a.less.pipes;
+          files = λ node h unopened. a.less.files node h (a.within node unopened);
+          descriptions = a.less.descriptions;
+          others = a.less.others;
+        };
+        grows = a.grows;
+        unmade = a.unmade;
       }
 
 pub turns_change : {S : Type 0} (m : Meaning S) (s : KernelState) (task : Task S) → pid_of task < next_pid s.machine.processes → UnmadeReachNothing s.machine

@@ -1,5 +1,5 @@
 -- A turn of a shell that stands before an action leaves it before one, and so does the shell that it makes.
-use Rattle.std.proofs.Common.{◌≡◌, ℕ, zero, suc, ◌+◌, List, [], ◌∷◌, ◌++◌, length, Option, Some, None, Bool, true, false, sym, subst}
+use Rattle.std.proofs.Common.{◌≡◌, ℕ, zero, suc, List, [], ◌∷◌, ◌++◌, length, Option, Some, None, Bool, true, false, sym, subst}
 use Rattle.std.specs.Prelude.{Result, Ok, Err, if◌then◌else◌, nat_eq}
 use Rattle.sh_builtin_shell.specs.Functions.{Named}
 use Rattle.sh_builtin_outcome.specs.Outcomes.{shell_status}

@@ -4,8 +4,9 @@ use Rattle.sh_exec.specs.Tasks.{pid_of}
 use Rattle.sh_exec.specs.declared.task.Task.{Task}
 use Rattle.sh_exec.specs.declared.task.Task.TheVariants.{Runs, Asks}
 use Rattle.sh_exec_entering.specs.Running.{InterpreterState}
+use Rattle.sh_laws.specs.Forking.{UnmadeReachNothing}
 use Rattle.sh_laws.specs.Rooted.{OpensFrom}
-use Rattle.sh_kernel.specs.Laws.{ChangesOnlyReached, opens, sends}
+use Rattle.sh_kernel.specs.Laws.{ChangesOnlyReached, OnlyGrows, ReachesNoMore, opens, sends}
 use Rattle.sh_kernel.specs.Calls.{after_key}
 use Rattle.sh_kernel.specs.Requests.{Request, after_request}
 use Rattle.sh_kernel.specs.State.{KernelState}
@@ -51,12 +52,16 @@ abbrev pub sends_by : KernelState → List (ℕ × Request) → Bool
 sends_by s [] = false
 sends_by s (r ∷ rs) = sends s r.0 r.1 || sends_by (after_request s r.0 r.1) rs
 
--- the same, and of what was there nothing changed but what the process reached at first or what its requests opened
+-- the same, and of what was there nothing changed but what the process reached at first or what its requests opened. Nor does it reach more
+-- than that then, but for what is new; numbers only grew; and no descriptor is of a process that is still to come
 pub record ChangesByRequests (pid : ℕ) (made : Option ℕ) (directory : List ℕ) (s t : KernelState) : Type 0 where
   pub requests : List (ℕ × Request)
   pub of_process : AllBy pid made directory requests
   pub after : t ≡ after_all s requests
   pub changes : ChangesOnlyReached pid (sends_by s requests) (opens_by s requests) s.machine t.machine
+  pub reaches : ReachesNoMore pid (opens_by s requests) s.machine t.machine
+  pub grows : OnlyGrows s.machine t.machine
+  pub unmade : UnmadeReachNothing t.machine
 
 -- what changes a kernel: a request of a process, or a key of the terminal
 pub data Change : Type 0 where

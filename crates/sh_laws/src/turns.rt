@@ -35,8 +35,9 @@ pub fn turns_keep_numbers<S: Stock>()
 /// Law: by its turn a process changes only pipes and files that its descriptors refer to or that it opens. It
 /// changes only open file descriptions that its descriptors refer to, and neither the descriptors nor the
 /// status of another process that was there; unless it sends a signal, as by its end: then it may also change the
-/// status of others that live, and close what those have that it ends. Premises: the process is there, and no
-/// descriptor is of a process that is still to come.
+/// status of others that live, and close what those have that it ends. It comes to reach nothing that was there and that it didn't reach, but for
+/// files that it opens, and no other process comes to reach a pipe that neither of them reached; numbers only grow. Premises: the process is there, and no descriptor is of a process
+/// that is still to come; which stays so.
 pub fn turns_change_what_is_reached<S: Stock>()
     ensures { (s : KernelState) (task : Task S) → pid_of task < next_pid s.machine.processes
         → UnmadeReachNothing s.machine

@@ -3,3 +3,4 @@ pub mod Reading
 pub mod Writing
 pub mod FileWriting
 pub mod Turning
+pub mod Beside

@@ -1,2 +1,3 @@
 pub mod Joined
 pub mod Turns
+pub mod Others

@@ -1,0 +1,28 @@
+-- What other processes leave of a process that runs a stage.
+use Rattle.std.specs.Prelude.{◌≡◌, ℕ, ◌<◌, List, Bool, true, false}
+use Rattle.sh_kernel.specs.Reaching.{is_end, reaches}
+use Rattle.sh_kernel_descriptors.specs.Machine.{MachineState}
+use Rattle.sh_kernel_processes.specs.Processes.{has_ended, next_pid}
+use Rattle.sh_pipe.specs.Pipe.{PipeState}
+use Rattle.sh_pipeline_turns.specs.Joined.{ReadsPipe, WritesPipe}
+
+-- only these processes have descriptors that lead to an end of the pipe
+abbrev pub OnlyReach : (owners : ℕ → Bool) → MachineState → (pipe : ℕ) → Type 0
+OnlyReach owners m pipe = (q : ℕ) → owners q ≡ false → reaches m.descriptors q (is_end m.descriptions pipe) ≡ false
+
+-- the process is none of these; they were there before what it did, and none of them has ended then
+pub record IsBeside (owners : ℕ → Bool) (other : ℕ) (old new : MachineState) : Type 0 where
+  pub apart : owners other ≡ false
+  pub there : (q : ℕ) → owners q ≡ true → q < next_pid old.processes
+  pub alive : (q : ℕ) → owners q ≡ true → has_ended new.processes q ≡ false
+
+-- the process still reads from this pipe, in which the same is
+pub record StillReads (owners : ℕ → Bool) (m : MachineState) (pid : ℕ) (given : List ℕ) (all : Bool) (read : List ℕ) (pipe : ℕ) (state : PipeState) : Type 0 where
+  pub reads : ReadsPipe m pid given all read
+  pub same_pipe : reads.pipe ≡ pipe
+  pub same_state : reads.state ≡ state
+  pub alone : OnlyReach owners m pipe
+
+pub record StillWrites (owners : ℕ → Bool) (m : MachineState) (pid pipe : ℕ) (state : PipeState) : Type 0 where
+  pub writes : WritesPipe m pid pipe state
+  pub alone : OnlyReach owners m pipe
