@@ -3,8 +3,11 @@ use Rattle.std.proofs.Common.{◌≡◌, ◌≢◌, ℕ, ◌<◌, ◌==◌, ◌&
 use Rattle.std.proofs.lemmas.Option.{slice_get_within}
 use Rattle.std.specs.List.{filter, list_any}
 use Rattle.std.specs.Option.{option_map, option_map_or}
+use Rattle.sh_kernel.proofs.Endings.{Endings, endings}
+use Rattle.sh_kernel.specs.Calls.{after_key, after_raising}
 use Rattle.sh_kernel.specs.Laws.{OnlyGrows}
 use Rattle.sh_kernel.specs.Reaching.{is_end, reaches}
+use Rattle.sh_kernel.specs.Signals.{after_signal, table_of}
 use Rattle.sh_kernel.specs.State.{KernelState}
 use Rattle.sh_kernel_descriptors.specs.Descriptors.{description_number, has_writer, is_called, is_named, reads_from, writes_to}
 use Rattle.sh_kernel_descriptors.specs.Machine.{MachineState}
@@ -15,22 +18,29 @@ use Rattle.sh_kernel_descriptors.specs.declared.description.Description.{Descrip
 use Rattle.sh_kernel_descriptors.specs.declared.description.Target.{Target}
 use Rattle.sh_kernel_descriptors.specs.declared.description.Target.TheVariants.{ReadEnd, WriteEnd}
 use Rattle.sh_kernel_processes.specs.Processes.{has_ended}
+use Rattle.sh_kernel_processes.specs.declared.process.Process.{Process}
+use Rattle.sh_kernel_signals.specs.Sending.{after_send, pids_of}
+use Rattle.sh_kernel_signals.specs.declared.target.SignalTarget.{SignalTarget}
+use Rattle.sh_kernel_signals.specs.declared.target.SignalTarget.TheVariants.{Group}
 use Rattle.sh_laws.proofs.Others.{same_own}
 use Rattle.sh_laws.specs.Requests.{ChangesByRequests}
 use Rattle.sh_pipe.specs.Pipe.{PipeState}
 use Rattle.sh_pipeline_turns.specs.Joined.{Opened, ReadsPipe, WritesPipe}
-use Rattle.sh_pipeline_turns.specs.Others.{IsBeside, OnlyReach, StillReads, StillWrites}
+use Rattle.sh_pipeline_turns.specs.Others.{AllGoOn, IsBeside, OnlyReach, StillReads, StillWrites}
+use Rattle.sh_signal.specs.declared.signal.Signal.{Signal}
+use Rattle.sh_tty.specs.Happenings as tty
+use Rattle.sh_tty.specs.Keys.{key_of, signal_of}
 
 -- ---- tests
-or_back : (a b : Bool) → b ≡ true → (a || b) ≡ true
+pub or_back : (a b : Bool) → b ≡ true → (a || b) ≡ true
 or_back true b h = refl
 or_back false b h = h
 
-or_front : (a b : Bool) → a ≡ true → (a || b) ≡ true
+pub or_front : (a b : Bool) → a ≡ true → (a || b) ≡ true
 or_front true b h = refl
 or_front false b h = absurd (cc)
 
-and_both : (a b : Bool) → (a && b) ≡ true → (a ≡ true) × (b ≡ true)
+pub and_both : (a b : Bool) → (a && b) ≡ true → (a ≡ true) × (b ≡ true)
 and_both true b h = (refl, h)
 and_both false b h = absurd (cc)
 
@@ -109,7 +119,7 @@ leads_on : (f : Target → Bool) (old new : MachineState) → OnlyGrows old new 
 leads_on f old new grows k h =
     of_target f (slice_get new.descriptions k) ∙ ap (λ (t : Option Target). option_map_or f t false) (grows.targets k (within f old.descriptions k h)) ∙ sym (of_target f (slice_get old.descriptions k)) ∙ h
 
-leads_at : (f : Target → Bool) (es : List Description) (k : ℕ) (e : Description) → slice_get es k ≡ Some e → f e.target ≡ true → leads f es k ≡ true
+pub leads_at : (f : Target → Bool) (es : List Description) (k : ℕ) (e : Description) → slice_get es k ≡ Some e → f e.target ≡ true → leads f es k ≡ true
 leads_at f es k e there h = ap (λ (o : Option Description). option_map_or (λ (x : Description). f x.target) o false) there ∙ h
 
 abbrev is_of_pipe : ℕ → Target → Bool
@@ -129,86 +139,139 @@ reads_is_end es pipe k h = of_option (slice_get es k) h
     of_option None h = absurd (cc)
     of_option (Some e) h = or_front (reads_from pipe e.target) (writes_to pipe e.target) h
 
--- ---- what requests of another process leave
+-- ---- what leaves processes as they are, and the pipes that only they reach
+pub record Leaves (owners : ℕ → Bool) (old new : MachineState) : Type 0 where
+  pub own : (q : ℕ) → owners q ≡ true → filter (λ (d : Descriptor). d.pid == q) new.descriptors ≡ filter (λ (d : Descriptor). d.pid == q) old.descriptors
+  pub pipes : (pipe : ℕ) → pipe < length old.pipes → OnlyReach owners old pipe → slice_get new.pipes pipe ≡ slice_get old.pipes pipe
+  pub alone : (pipe : ℕ) → pipe < length old.pipes → OnlyReach owners old pipe → OnlyReach owners new pipe
+  pub descriptions : (k pipe : ℕ) → k < length old.descriptions → is_end old.descriptions pipe k ≡ true → OnlyReach owners old pipe → slice_get new.descriptions k ≡ slice_get old.descriptions k
+  pub targets : (f : Target → Bool) → Follows (leads f old.descriptions) (leads f new.descriptions)
+
+-- requests of another process do
 module _ (s t : KernelState) (other : ℕ) (made : Option ℕ) (directory : List ℕ) (owners : ℕ → Bool) (c : ChangesByRequests other made directory s t) (beside : IsBeside owners other s.machine t.machine) where
   elsewhere : (q : ℕ) → owners q ≡ true → q ≢ other
   elsewhere q h e = let both : true ≡ false = sym h ∙ ap owners e ∙ beside.apart in cc
 
-  own_stay : (q : ℕ) → owners q ≡ true → filter (λ (d : Descriptor). d.pid == q) t.machine.descriptors ≡ filter (λ (d : Descriptor). d.pid == q) s.machine.descriptors
-  own_stay q h = c.changes.descriptors q (elsewhere q h) (beside.there q h) (λ sent. beside.alive q h)
+  none_ended : (pipe : ℕ) → OnlyReach owners s.machine pipe → (q : ℕ) (b : Bool) → owners q ≡ b → has_ended t.machine.processes q ≡ true → reaches s.machine.descriptors q (is_end s.machine.descriptions pipe) ≡ false
+  none_ended pipe alone q true h ended = let both : true ≡ false = sym ended ∙ beside.alive q h in absurd (cc)
+  none_ended pipe alone q false h ended = alone q h
 
-  alone_stays : (pipe : ℕ) → pipe < length s.machine.pipes → OnlyReach owners s.machine pipe → OnlyReach owners t.machine pipe
-  alone_stays pipe inside alone q h = c.reaches.others q pipe inside (alone other beside.apart) (alone q h)
+  follows : (pipe k : ℕ) → is_end s.machine.descriptions pipe k ≡ true → Follows (λ j. j == k) (is_end s.machine.descriptions pipe)
+  follows pipe k ends j h = ap (λ (n : ℕ). is_end s.machine.descriptions pipe n) (eqb-true j k h) ∙ ends
 
-  slot_stays : (pipe : ℕ) (state : PipeState) → slice_get s.machine.pipes pipe ≡ Some (Some state) → OnlyReach owners s.machine pipe → slice_get t.machine.pipes pipe ≡ Some (Some state)
-  slot_stays pipe state slot alone =
-      c.changes.pipes pipe (slice_get_within s.machine.pipes pipe (Some state) slot) (alone other beside.apart) (λ sent q ended. of_owner q (owners q) refl ended) ∙ slot
-    where
-      of_owner : (q : ℕ) (b : Bool) → owners q ≡ b → has_ended t.machine.processes q ≡ true → reaches s.machine.descriptors q (is_end s.machine.descriptions pipe) ≡ false
-      of_owner q true h ended = let both : true ≡ false = sym ended ∙ beside.alive q h in absurd (cc)
-      of_owner q false h ended = alone q h
+  pub requests_leave : Leaves owners s.machine t.machine
+  requests_leave =
+      record {
+        own = λ q h. c.changes.descriptors q (elsewhere q h) (beside.there q h) (λ sent. beside.alive q h);
+        pipes = λ pipe inside alone. c.changes.pipes pipe inside (alone other beside.apart) (λ sent q ended. none_ended pipe alone q (owners q) refl ended);
+        alone = λ pipe inside alone q h. c.reaches.others q pipe inside (alone other beside.apart) (alone q h);
+        descriptions = λ k pipe inside ends alone.
+            c.changes.descriptions k inside (reaches_less s.machine.descriptors other (λ j. j == k) (is_end s.machine.descriptions pipe) (follows pipe k ends) (alone other beside.apart));
+        targets = λ f. leads_on f s.machine t.machine c.grows;
+      }
 
-  -- a description of the pipe stays as it is
-  description_stays : (pipe k : ℕ) (e : Description) → slice_get s.machine.descriptions k ≡ Some e → is_of_pipe pipe e.target ≡ true → OnlyReach owners s.machine pipe → slice_get t.machine.descriptions k ≡ Some e
-  description_stays pipe k e there ends alone =
-      let inside = slice_get_within s.machine.descriptions k e there in
-      let follows : Follows (λ j. j == k) (is_end s.machine.descriptions pipe) = λ j h. ap (λ (n : ℕ). is_end s.machine.descriptions pipe n) (eqb-true j k h) ∙ leads_at (is_of_pipe pipe) s.machine.descriptions k e there ends in
-      c.changes.descriptions k inside (reaches_less s.machine.descriptors other (λ j. j == k) (is_end s.machine.descriptions pipe) follows (alone other beside.apart)) ∙ there
+-- so do signals by which others end
+module _ (owners : ℕ → Bool) (m : MachineState) (ps : List Process) (m' : MachineState) (e : Endings m ps m') (alive : AllGoOn owners m') where
+  goes_on : (q : ℕ) → owners q ≡ true → has_ended ps q ≡ false
+  goes_on q h = ap (λ (xs : List Process). has_ended xs q) (sym e.processes) ∙ alive q h
 
-  opened_stays : (pid number pipe : ℕ) (target : Target) → owners pid ≡ true → is_of_pipe pipe target ≡ true → OnlyReach owners s.machine pipe → (o : Opened s.machine pid number target) → Opened t.machine pid number target
+  others_ended : (pipe : ℕ) → OnlyReach owners m pipe → (q : ℕ) (b : Bool) → owners q ≡ b → has_ended ps q ≡ true → reaches m.descriptors q (is_end m.descriptions pipe) ≡ false
+  others_ended pipe alone q true h ended = let both : true ≡ false = sym ended ∙ goes_on q h in absurd (cc)
+  others_ended pipe alone q false h ended = alone q h
+
+  pub endings_leave : Leaves owners m m'
+  endings_leave =
+      record {
+        own = λ q h. e.descriptors q (goes_on q h);
+        pipes = λ pipe inside alone. e.pipes pipe (λ q ended. others_ended pipe alone q (owners q) refl ended);
+        alone = λ pipe inside alone q h. ap (λ (es : List Description). reaches m'.descriptors q (is_end es pipe)) e.descriptions ∙ e.reaches_less q (is_end m.descriptions pipe) (alone q h);
+        descriptions = λ k pipe inside ends alone. ap (λ (es : List Description). slice_get es k) e.descriptions;
+        targets = λ f k h. ap (λ (es : List Description). leads f es k) e.descriptions ∙ h;
+      }
+
+-- ---- pipes that are left
+module _ (owners : ℕ → Bool) (old new : MachineState) (l : Leaves owners old new) where
+  opened_stays : (pid number pipe : ℕ) (target : Target) → owners pid ≡ true → is_of_pipe pipe target ≡ true → OnlyReach owners old pipe → (o : Opened old pid number target) → Opened new pid number target
   opened_stays pid number pipe target owner ends alone o =
       record {
         place = o.place;
         description = o.description;
-        refers = same_number s.machine.descriptors t.machine.descriptors pid (Number number) (own_stay pid owner) ∙ o.refers;
-        described = description_stays pipe o.place o.description o.described (ap (λ (x : Target). is_of_pipe pipe x) o.leads ∙ ends) alone;
+        refers = same_number old.descriptors new.descriptors pid (Number number) (l.own pid owner) ∙ o.refers;
+        described = l.descriptions o.place pipe (slice_get_within old.descriptions o.place o.description o.described)
+            (leads_at (is_of_pipe pipe) old.descriptions o.place o.description o.described (ap (λ (x : Target). is_of_pipe pipe x) o.leads ∙ ends)) alone ∙ o.described;
         leads = o.leads;
       }
 
   -- who has an end of the pipe keeps it
-  ends_stay : (pipe : ℕ) (f : Target → Bool) → Follows (leads f s.machine.descriptions) (is_end s.machine.descriptions pipe) → OnlyReach owners s.machine pipe
-      → list_any (λ (d : Descriptor). leads f s.machine.descriptions d.description) s.machine.descriptors ≡ true → list_any (λ (d : Descriptor). leads f t.machine.descriptions d.description) t.machine.descriptors ≡ true
+  ends_stay : (pipe : ℕ) (f : Target → Bool) → Follows (leads f old.descriptions) (is_end old.descriptions pipe) → OnlyReach owners old pipe
+      → list_any (λ (d : Descriptor). leads f old.descriptions d.description) old.descriptors ≡ true → list_any (λ (d : Descriptor). leads f new.descriptions d.description) new.descriptors ≡ true
   ends_stay pipe f follows alone h =
-      let some = any_has s.machine.descriptors (leads f s.machine.descriptions) h in
+      let some = any_has old.descriptors (leads f old.descriptions) h in
       of_owner some.0 some.1 (owners some.0) refl
     where
-      of_owner : (q : ℕ) → reaches s.machine.descriptors q (leads f s.machine.descriptions) ≡ true → (b : Bool) → owners q ≡ b → list_any (λ (d : Descriptor). leads f t.machine.descriptions d.description) t.machine.descriptors ≡ true
+      of_owner : (q : ℕ) → reaches old.descriptors q (leads f old.descriptions) ≡ true → (b : Bool) → owners q ≡ b → list_any (λ (d : Descriptor). leads f new.descriptions d.description) new.descriptors ≡ true
       of_owner q has true owner =
-          has_any t.machine.descriptors q (leads f t.machine.descriptions)
-          (reaches_more t.machine.descriptors q (leads f s.machine.descriptions) (leads f t.machine.descriptions) (leads_on f s.machine t.machine c.grows)
-          (same_own s.machine.descriptors t.machine.descriptors q (leads f s.machine.descriptions) (own_stay q owner) ∙ has))
+          has_any new.descriptors q (leads f new.descriptions)
+          (reaches_more new.descriptors q (leads f old.descriptions) (leads f new.descriptions) (l.targets f)
+          (same_own old.descriptors new.descriptors q (leads f old.descriptions) (l.own q owner) ∙ has))
       of_owner q has false none =
-          let both : true ≡ false = sym (reaches_more s.machine.descriptors q (leads f s.machine.descriptions) (is_end s.machine.descriptions pipe) follows has) ∙ alone q none in absurd (cc)
+          let both : true ≡ false = sym (reaches_more old.descriptors q (leads f old.descriptions) (is_end old.descriptions pipe) follows has) ∙ alone q none in absurd (cc)
 
-  -- ---- the laws
-  pub still_reads : (pid : ℕ) (given : List ℕ) (all : Bool) (read : List ℕ) → owners pid ≡ true → (r : ReadsPipe s.machine pid given all read) → OnlyReach owners s.machine r.pipe → StillReads owners t.machine pid given all read r.pipe r.state
+  pub still_reads : (pid : ℕ) (given : List ℕ) (all : Bool) (read : List ℕ) → owners pid ≡ true → (r : ReadsPipe old pid given all read) → OnlyReach owners old r.pipe → StillReads owners new pid given all read r.pipe r.state
   unfolding opened_stays
   still_reads pid given all read owner r alone =
+      let inside = slice_get_within old.pipes r.pipe (Some r.state) r.slot in
       record {
         reads = record {
           pipe = r.pipe;
           opened = opened_stays pid 0 r.pipe (ReadEnd r.pipe) owner (or_front (r.pipe == r.pipe) false (eq-eqb r.pipe r.pipe refl)) alone r.opened;
           readable = r.readable;
           state = r.state;
-          slot = slot_stays r.pipe r.state r.slot alone;
+          slot = l.pipes r.pipe inside alone ∙ r.slot;
           bytes = r.bytes;
-          end = λ none. r.end (false_where (has_writer s.machine.descriptors s.machine.descriptions r.pipe) (has_writer t.machine.descriptors t.machine.descriptions r.pipe)
-              (ends_stay r.pipe (writes_to r.pipe) (writes_is_end s.machine.descriptions r.pipe) alone) none);
+          end = λ none. r.end (false_where (has_writer old.descriptors old.descriptions r.pipe) (has_writer new.descriptors new.descriptions r.pipe)
+              (ends_stay r.pipe (writes_to r.pipe) (writes_is_end old.descriptions r.pipe) alone) none);
         };
         same_pipe = refl;
         same_state = refl;
-        alone = alone_stays r.pipe (slice_get_within s.machine.pipes r.pipe (Some r.state) r.slot) alone;
+        alone = l.alone r.pipe inside alone;
       }
 
-  pub still_writes : (pid pipe : ℕ) (state : PipeState) → owners pid ≡ true → WritesPipe s.machine pid pipe state → OnlyReach owners s.machine pipe → StillWrites owners t.machine pid pipe state
+  pub still_writes : (pid pipe : ℕ) (state : PipeState) → owners pid ≡ true → WritesPipe old pid pipe state → OnlyReach owners old pipe → StillWrites owners new pid pipe state
   unfolding opened_stays
   still_writes pid pipe state owner w alone =
+      let inside = slice_get_within old.pipes pipe (Some state) w.slot in
       record {
         writes = record {
           opened = opened_stays pid 1 pipe (WriteEnd pipe) owner (eq-eqb pipe pipe refl) alone w.opened;
           writable = w.writable;
-          slot = slot_stays pipe state w.slot alone;
-          reader = ends_stay pipe (reads_from pipe) (reads_is_end s.machine.descriptions pipe) alone w.reader;
+          slot = l.pipes pipe inside alone ∙ w.slot;
+          reader = ends_stay pipe (reads_from pipe) (reads_is_end old.descriptions pipe) alone w.reader;
         };
-        alone = alone_stays pipe (slice_get_within s.machine.pipes pipe (Some state) w.slot) alone;
+        alone = l.alone pipe inside alone;
       }
+
+-- ---- keys
+nothing_ends : (m : MachineState) → Endings m m.processes m
+nothing_ends m = record {
+  processes = refl;
+  files = refl;
+  descriptions = refl;
+  room = refl;
+  pipes = λ pipe none. refl;
+  descriptors = λ q alive. refl;
+  reaches_less = λ q test r. r;
+  owned = λ pid test own. own;
+}
+
+pub signals_leave : (owners : ℕ → Bool) (s : KernelState) (to : SignalTarget) (signal : Signal) → AllGoOn owners (after_signal s to signal).machine → Leaves owners s.machine (after_signal s to signal).machine
+signals_leave owners s to signal alive =
+    let ps = (after_send (table_of s) to signal).processes in
+    endings_leave owners s.machine ps (after_signal s to signal).machine (endings s.machine ps (pids_of s.members)) alive
+
+raised_leaves : (owners : ℕ → Bool) (s : KernelState) (signal : Option Signal) → AllGoOn owners (after_raising s signal).machine → Leaves owners s.machine (after_raising s signal).machine
+raised_leaves owners s None alive = endings_leave owners s.machine s.machine.processes s.machine (nothing_ends s.machine) alive
+raised_leaves owners s (Some signal) alive = signals_leave owners s (Group s.foreground) signal alive
+
+pub keys_leave : (owners : ℕ → Bool) (s : KernelState) (byte : ℕ) → AllGoOn owners (after_key s byte).machine → Leaves owners s.machine (after_key s byte).machine
+keys_leave owners s byte alive = raised_leaves owners (record s { terminal = tty.after_key byte s.terminal }) (signal_of (key_of byte)) alive

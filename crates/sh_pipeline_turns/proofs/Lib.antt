@@ -4,3 +4,4 @@ pub mod Writing
 pub mod FileWriting
 pub mod Turning
 pub mod Beside
+pub mod Leaving

@@ -10,11 +10,15 @@ use Rattle.sh_pipeline_turns.specs.Joined.{ReadsPipe, WritesPipe}
 abbrev pub OnlyReach : (owners : ℕ → Bool) → MachineState → (pipe : ℕ) → Type 0
 OnlyReach owners m pipe = (q : ℕ) → owners q ≡ false → reaches m.descriptors q (is_end m.descriptions pipe) ≡ false
 
+-- none of these processes has ended
+abbrev pub AllGoOn : (owners : ℕ → Bool) → MachineState → Type 0
+AllGoOn owners m = (q : ℕ) → owners q ≡ true → has_ended m.processes q ≡ false
+
 -- the process is none of these; they were there before what it did, and none of them has ended then
 pub record IsBeside (owners : ℕ → Bool) (other : ℕ) (old new : MachineState) : Type 0 where
   pub apart : owners other ≡ false
   pub there : (q : ℕ) → owners q ≡ true → q < next_pid old.processes
-  pub alive : (q : ℕ) → owners q ≡ true → has_ended new.processes q ≡ false
+  pub alive : AllGoOn owners new
 
 -- the process still reads from this pipe, in which the same is
 pub record StillReads (owners : ℕ → Bool) (m : MachineState) (pid : ℕ) (given : List ℕ) (all : Bool) (read : List ℕ) (pipe : ℕ) (state : PipeState) : Type 0 where

@@ -1,10 +1,12 @@
 //! Laws of what other processes leave.
-ghost use Rattle.std.specs.Prelude.{◌≡◌, ℕ, List, Bool, true, Option};
+ghost use Rattle.std.specs.Prelude.{◌≡◌, ℕ, List, Bool, true, false, Option};
+ghost use Rattle.sh_kernel.specs.Calls.{after_key, end_call};
 ghost use Rattle.sh_kernel.specs.State.{KernelState};
+ghost use Rattle.sh_kernel_processes.specs.Processes.{has_ended};
 ghost use Rattle.sh_laws.specs.Requests.{ChangesByRequests};
 ghost use Rattle.sh_pipe.specs.Pipe.{PipeState};
 ghost use Rattle.sh_pipeline_turns.specs.Joined.{ReadsPipe, WritesPipe};
-ghost use Rattle.sh_pipeline_turns.specs.Others.{IsBeside, OnlyReach, StillReads, StillWrites};
+ghost use Rattle.sh_pipeline_turns.specs.Others.{AllGoOn, IsBeside, OnlyReach, StillReads, StillWrites};
 
 /// Law: where only some processes reach a pipe, and none of them ends, what another process does by its requests, as in a turn
 /// (`turns_change_what_is_reached` of `sh_laws`), leaves the pipe's bytes. A process that reads from the pipe still does, and comes to the end of
@@ -16,4 +18,20 @@ pub fn others_leave_pipes()
     ensures writes { (s t : KernelState) (other : ℕ) (made : Option ℕ) (directory : List ℕ) (owners : ℕ → Bool) (pid pipe : ℕ) (state : PipeState)
         → ChangesByRequests other made directory s t → IsBeside owners other s.machine t.machine → owners pid ≡ true
         → WritesPipe s.machine pid pipe state → OnlyReach owners s.machine pipe → StillWrites owners t.machine pid pipe state }
+{}
+
+/// Law: so does a key of the terminal, where none of those processes ends by it.
+pub fn keys_leave_pipes()
+    ensures reads { (s : KernelState) (byte : ℕ) (owners : ℕ → Bool) (pid : ℕ) (given : List ℕ) (all : Bool) (read : List ℕ) → AllGoOn owners (after_key s byte).machine → owners pid ≡ true
+        → (r : ReadsPipe s.machine pid given all read) → OnlyReach owners s.machine r.pipe → StillReads owners (after_key s byte).machine pid given all read r.pipe r.state }
+    ensures writes { (s : KernelState) (byte : ℕ) (owners : ℕ → Bool) (pid pipe : ℕ) (state : PipeState) → AllGoOn owners (after_key s byte).machine → owners pid ≡ true
+        → WritesPipe s.machine pid pipe state → OnlyReach owners s.machine pipe → StillWrites owners (after_key s byte).machine pid pipe state }
+{}
+
+/// Law: where a process ends by itself, another one that reads from a pipe, and doesn't end by it, still does. What the pipe holds stays until it is
+/// read, also where the process that has ended wrote it; and that no more is to come may be taken as known then.
+pub fn ends_leave_pipes()
+    ensures { (s : KernelState) (pid status : ℕ) (owners : ℕ → Bool) (next : ℕ) (given : List ℕ) (all : Bool) (read : List ℕ)
+        → (r : ReadsPipe s.machine next given all read) → OnlyReach owners s.machine r.pipe → has_ended (end_call s pid status).after.machine.processes next ≡ false
+        → StillReads owners (end_call s pid status).after.machine next given true read r.pipe r.state }
 {}
