@@ -1,5 +1,4 @@
 //! Laws of pipelines as processes: turns of processes that run the stages of a pipeline are the stages' steps.
 #![tactic(auto)]
 
-pub mod others;
 pub mod turns;

@@ -1,6 +1,6 @@
 use Rattle.sh_kernel.specs.Calls.{after_key}
-use Rattle.sh_pipeline_turns.proofs.Beside.{keys_leave, still_reads, still_writes}
-use Rattle.sh_pipeline_turns.proofs.others.keys_leave_pipes.Goals as goal
+use Rattle.sh_pipeline_others.proofs.Beside.{keys_leave, still_reads, still_writes}
+use Rattle.sh_pipeline_others.proofs.others.keys_leave_pipes.Goals as goal
 
 pub returns-clause-reads : goal.returns-clause-reads
 returns-clause-reads c = λ s byte owners pid given all read alive. still_reads owners s.machine (after_key s byte).machine (keys_leave owners s byte alive) pid given all read

@@ -26,7 +26,7 @@ use Rattle.sh_laws.proofs.Others.{same_own}
 use Rattle.sh_laws.specs.Requests.{ChangesByRequests}
 use Rattle.sh_pipe.specs.Pipe.{PipeState}
 use Rattle.sh_pipeline_turns.specs.Joined.{Opened, ReadsPipe, WritesPipe}
-use Rattle.sh_pipeline_turns.specs.Others.{AllGoOn, IsBeside, OnlyReach, StillReads, StillWrites}
+use Rattle.sh_pipeline_others.specs.Others.{AllGoOn, IsBeside, OnlyReach, StillReads, StillWrites}
 use Rattle.sh_signal.specs.declared.signal.Signal.{Signal}
 use Rattle.sh_tty.specs.Happenings as tty
 use Rattle.sh_tty.specs.Keys.{key_of, signal_of}
@@ -252,7 +252,7 @@ module _ (owners : ℕ → Bool) (old new : MachineState) (l : Leaves owners old
       }
 
 -- ---- keys
-nothing_ends : (m : MachineState) → Endings m m.processes m
+pub nothing_ends : (m : MachineState) → Endings m m.processes m
 nothing_ends m = record {
   processes = refl;
   files = refl;

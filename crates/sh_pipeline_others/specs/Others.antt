@@ -1,10 +1,10 @@
 -- What other processes leave of a process that runs a stage.
 use Rattle.std.specs.Prelude.{◌≡◌, ℕ, ◌<◌, List, Bool, true, false}
-use Rattle.sh_kernel.specs.Reaching.{is_end, reaches}
+use Rattle.sh_kernel.specs.Reaching.{is_end, is_file, reaches}
 use Rattle.sh_kernel_descriptors.specs.Machine.{MachineState}
 use Rattle.sh_kernel_processes.specs.Processes.{has_ended, next_pid}
 use Rattle.sh_pipe.specs.Pipe.{PipeState}
-use Rattle.sh_pipeline_turns.specs.Joined.{ReadsPipe, WritesPipe}
+use Rattle.sh_pipeline_turns.specs.Joined.{ReadsFile, ReadsPipe, WritesPipe}
 
 -- only these processes have descriptors that lead to an end of the pipe
 abbrev pub OnlyReach : (owners : ℕ → Bool) → MachineState → (pipe : ℕ) → Type 0
@@ -30,3 +30,12 @@ pub record StillReads (owners : ℕ → Bool) (m : MachineState) (pid : ℕ) (gi
 pub record StillWrites (owners : ℕ → Bool) (m : MachineState) (pid pipe : ℕ) (state : PipeState) : Type 0 where
   pub writes : WritesPipe m pid pipe state
   pub alone : OnlyReach owners m pipe
+
+-- only these processes have descriptors that lead to the file
+abbrev pub OnlyReachFile : (owners : ℕ → Bool) → MachineState → (number : ℕ) → Type 0
+OnlyReachFile owners m number = (q : ℕ) → owners q ≡ false → reaches m.descriptors q (is_file m.descriptions number) ≡ false
+
+-- the process still reads from this file
+pub record StillReadsFile (m : MachineState) (pid : ℕ) (given : List ℕ) (all : Bool) (read : List ℕ) (number : ℕ) : Type 0 where
+  pub reads : ReadsFile m pid given all read
+  pub same_file : reads.number ≡ number

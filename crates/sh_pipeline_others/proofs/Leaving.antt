@@ -26,9 +26,9 @@ use Rattle.sh_kernel_processes.specs.Processes.{has_ended, lives}
 use Rattle.sh_kernel_processes.specs.declared.process.Process.{Process}
 use Rattle.sh_kernel_signals.specs.Sending.{after_end, pids_of}
 use Rattle.sh_laws.proofs.Others.{same_own}
-use Rattle.sh_pipeline_turns.proofs.Beside.{and_both, leads_at, or_back, or_front, same_number}
+use Rattle.sh_pipeline_others.proofs.Beside.{and_both, leads_at, or_back, or_front, same_number}
 use Rattle.sh_pipeline_turns.specs.Joined.{ReadsPipe}
-use Rattle.sh_pipeline_turns.specs.Others.{OnlyReach, StillReads}
+use Rattle.sh_pipeline_others.specs.Others.{OnlyReach, StillReads}
 
 -- ---- a pipe of which another process has an end is held
 same_end : (es : List Description) (pipe : ℕ) (d : Descriptor) → is_end es pipe d.description ≡ closings.is_end es pipe d

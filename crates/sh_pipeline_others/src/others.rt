@@ -3,10 +3,10 @@ ghost use Rattle.std.specs.Prelude.{◌≡◌, ℕ, List, Bool, true, false, Opt
 ghost use Rattle.sh_kernel.specs.Calls.{after_key, end_call};
 ghost use Rattle.sh_kernel.specs.State.{KernelState};
 ghost use Rattle.sh_kernel_processes.specs.Processes.{has_ended};
-ghost use Rattle.sh_laws.specs.Requests.{ChangesByRequests};
+ghost use Rattle.sh_laws.specs.Requests.{ChangesByRequests, opens_by};
 ghost use Rattle.sh_pipe.specs.Pipe.{PipeState};
-ghost use Rattle.sh_pipeline_turns.specs.Joined.{ReadsPipe, WritesPipe};
-ghost use Rattle.sh_pipeline_turns.specs.Others.{AllGoOn, IsBeside, OnlyReach, StillReads, StillWrites};
+ghost use Rattle.sh_pipeline_turns.specs.Joined.{ReadsFile, ReadsPipe, WritesFile, WritesPipe};
+ghost use Rattle.sh_pipeline_others.specs.Others.{AllGoOn, IsBeside, OnlyReach, OnlyReachFile, StillReads, StillReadsFile, StillWrites};
 
 /// Law: where only some processes reach a pipe, and none of them ends, what another process does by its requests, as in a turn
 /// (`turns_change_what_is_reached` of `sh_laws`), leaves the pipe's bytes. A process that reads from the pipe still does, and comes to the end of
@@ -34,4 +34,23 @@ pub fn ends_leave_pipes()
     ensures { (s : KernelState) (pid status : ℕ) (owners : ℕ → Bool) (next : ℕ) (given : List ℕ) (all : Bool) (read : List ℕ)
         → (r : ReadsPipe s.machine next given all read) → OnlyReach owners s.machine r.pipe → has_ended (end_call s pid status).after.machine.processes next ≡ false
         → StillReads owners (end_call s pid status).after.machine next given true read r.pipe r.state }
+{}
+
+/// Law: where only some processes reach a file, and none of them ends, what another process does by its requests leaves the file, as long as it doesn't
+/// open it. A process that reads from the file still does, and one that writes to it still does.
+pub fn others_leave_files()
+    ensures reads { (s t : KernelState) (other : ℕ) (made : Option ℕ) (directory : List ℕ) (owners : ℕ → Bool) (pid : ℕ) (given : List ℕ) (all : Bool) (read : List ℕ)
+        → (c : ChangesByRequests other made directory s t) → IsBeside owners other s.machine t.machine → owners pid ≡ true
+        → (r : ReadsFile s.machine pid given all read) → OnlyReachFile owners s.machine r.number → opens_by s c.requests r.number ≡ false → StillReadsFile t.machine pid given all read r.number }
+    ensures writes { (s t : KernelState) (other : ℕ) (made : Option ℕ) (directory : List ℕ) (owners : ℕ → Bool) (pid number : ℕ) (written : List ℕ)
+        → (c : ChangesByRequests other made directory s t) → IsBeside owners other s.machine t.machine → owners pid ≡ true
+        → WritesFile s.machine pid number written → OnlyReachFile owners s.machine number → opens_by s c.requests number ≡ false → WritesFile t.machine pid number written }
+{}
+
+/// Law: so does a key of the terminal, whoever reaches the file, where the process doesn't end by it.
+pub fn keys_leave_files()
+    ensures reads { (s : KernelState) (byte pid : ℕ) (given : List ℕ) (all : Bool) (read : List ℕ) → has_ended (after_key s byte).machine.processes pid ≡ false
+        → (r : ReadsFile s.machine pid given all read) → StillReadsFile (after_key s byte).machine pid given all read r.number }
+    ensures writes { (s : KernelState) (byte pid number : ℕ) (written : List ℕ) → has_ended (after_key s byte).machine.processes pid ≡ false
+        → WritesFile s.machine pid number written → WritesFile (after_key s byte).machine pid number written }
 {}
