@@ -75,7 +75,7 @@ any_has (d ∷ ds) f h = of_first (f d.description) refl h (λ rest. any_has ds 
         (d.pid, or_front ((d.pid == d.pid) && f d.description) (reaches ds d.pid f) (ap (λ (b : Bool). b && f d.description) (eq-eqb d.pid d.pid refl) ∙ e))
     of_first false e h others = let more = others h in (more.0, or_back ((d.pid == more.0) && f d.description) (reaches ds more.0 f) more.1)
 
-has_any : (ds : List Descriptor) (pid : ℕ) (f : ℕ → Bool) → reaches ds pid f ≡ true → list_any (λ (d : Descriptor). f d.description) ds ≡ true
+pub has_any : (ds : List Descriptor) (pid : ℕ) (f : ℕ → Bool) → reaches ds pid f ≡ true → list_any (λ (d : Descriptor). f d.description) ds ≡ true
 has_any [] pid f h = absurd (cc)
 has_any (d ∷ ds) pid f h = of_first (d.pid == pid) (f d.description) h (λ rest. has_any ds pid f rest)
   where

@@ -27,10 +27,10 @@ use Rattle.sh_tty.specs.Happenings as tty
 use Rattle.sh_tty.specs.Keys.{key_of, signal_of}
 
 -- what a process has open of a file, and what the file holds, stays
-record LeavesFile (pid number place : ℕ) (old new : MachineState) : Type 0 where
-  own : filter (λ (d : Descriptor). d.pid == pid) new.descriptors ≡ filter (λ (d : Descriptor). d.pid == pid) old.descriptors
-  description : slice_get new.descriptions place ≡ slice_get old.descriptions place
-  node : slice_get new.files.nodes number ≡ slice_get old.files.nodes number
+pub record LeavesFile (pid number place : ℕ) (old new : MachineState) : Type 0 where
+  pub own : filter (λ (d : Descriptor). d.pid == pid) new.descriptors ≡ filter (λ (d : Descriptor). d.pid == pid) old.descriptors
+  pub description : slice_get new.descriptions place ≡ slice_get old.descriptions place
+  pub node : slice_get new.files.nodes number ≡ slice_get old.files.nodes number
 
 opened_there : (pid number place descriptor : ℕ) (old new : MachineState) (o : Opened old pid descriptor (File number)) → o.place ≡ place → LeavesFile pid number place old new → Opened new pid descriptor (File number)
 opened_there pid number place descriptor old new o same l =
@@ -42,7 +42,7 @@ opened_there pid number place descriptor old new o same l =
       leads = o.leads;
     }
 
-reads_there : (old new : MachineState) (pid : ℕ) (given : List ℕ) (all : Bool) (read : List ℕ) (r : ReadsFile old pid given all read) → LeavesFile pid r.number r.opened.place old new → StillReadsFile new pid given all read r.number
+pub reads_there : (old new : MachineState) (pid : ℕ) (given : List ℕ) (all : Bool) (read : List ℕ) (r : ReadsFile old pid given all read) → LeavesFile pid r.number r.opened.place old new → StillReadsFile new pid given all read r.number
 unfolding opened_there
 reads_there old new pid given all read r l =
     record {
@@ -60,7 +60,7 @@ reads_there old new pid given all read r l =
       same_file = refl;
     }
 
-writes_there : (old new : MachineState) (pid number : ℕ) (written : List ℕ) (w : WritesFile old pid number written) → LeavesFile pid number w.opened.place old new → WritesFile new pid number written
+pub writes_there : (old new : MachineState) (pid number : ℕ) (written : List ℕ) (w : WritesFile old pid number written) → LeavesFile pid number w.opened.place old new → WritesFile new pid number written
 unfolding opened_there
 writes_there old new pid number written w l =
     record {
@@ -98,7 +98,7 @@ module _ (s t : KernelState) (other : ℕ) (made : Option ℕ) (directory : List
       writes_there s.machine t.machine pid number written w (leaves_file pid number w.opened.place w.opened.description _ owner w.opened.described w.opened.leads w.holds alone unopened)
 
 -- ---- keys
-endings_leave_file : (pid number place : ℕ) (m : MachineState) (ps : List Process) (m' : MachineState) → Endings m ps m' → has_ended m'.processes pid ≡ false → LeavesFile pid number place m m'
+pub endings_leave_file : (pid number place : ℕ) (m : MachineState) (ps : List Process) (m' : MachineState) → Endings m ps m' → has_ended m'.processes pid ≡ false → LeavesFile pid number place m m'
 endings_leave_file pid number place m ps m' e alive =
     record {
       own = e.descriptors pid (ap (λ (xs : List Process). has_ended xs pid) (sym e.processes) ∙ alive);
@@ -112,7 +112,7 @@ raised_leaves_file pid number place s (Some signal) alive =
     let ps = (after_send (table_of s) (Group s.foreground) signal).processes in
     endings_leave_file pid number place s.machine ps (after_signal s (Group s.foreground) signal).machine (endings s.machine ps (pids_of s.members)) alive
 
-key_leaves_file : (pid number place : ℕ) (s : KernelState) (byte : ℕ) → has_ended (after_key s byte).machine.processes pid ≡ false → LeavesFile pid number place s.machine (after_key s byte).machine
+pub key_leaves_file : (pid number place : ℕ) (s : KernelState) (byte : ℕ) → has_ended (after_key s byte).machine.processes pid ≡ false → LeavesFile pid number place s.machine (after_key s byte).machine
 key_leaves_file pid number place s byte alive = raised_leaves_file pid number place (record s { terminal = tty.after_key byte s.terminal }) (signal_of (key_of byte)) alive
 
 pub keys_still_read : (s : KernelState) (byte pid : ℕ) (given : List ℕ) (all : Bool) (read : List ℕ) → has_ended (after_key s byte).machine.processes pid ≡ false → (r : ReadsFile s.machine pid given all read) → StillReadsFile (after_key s byte).machine pid given all read r.number

@@ -98,7 +98,7 @@ slot_kept m next pipe (pid ∷ pids) alive has = of_test (has_ended m.processes 
     of_test false ended others = others m alive has
 
 -- ---- the next stage
-found_reaches : (ds : List Descriptor) (pid : ℕ) (name : DescriptorRef) (k : ℕ) (test : ℕ → Bool) → description_number ds pid name ≡ Some k → test k ≡ true → reaches ds pid test ≡ true
+pub found_reaches : (ds : List Descriptor) (pid : ℕ) (name : DescriptorRef) (k : ℕ) (test : ℕ → Bool) → description_number ds pid name ≡ Some k → test k ≡ true → reaches ds pid test ≡ true
 found_reaches [] pid name k test found h = absurd (cc)
 found_reaches (d ∷ ds) pid name k test found h = of_first (is_named pid name d) refl found (λ rest. found_reaches ds pid name k test rest h)
   where
@@ -110,7 +110,7 @@ found_reaches (d ∷ ds) pid name k test found h = of_first (is_named pid name d
         or_front ((d.pid == pid) && test d.description) (reaches ds pid test) (ap (λ (b : Bool). b && test d.description) own.0 ∙ (ap test there ∙ h))
     of_first false named found others = or_back ((d.pid == pid) && test d.description) (reaches ds pid test) (others found)
 
-reader_has : (m : MachineState) (next : ℕ) (given : List ℕ) (all : Bool) (read : List ℕ) (r : ReadsPipe m next given all read) → reaches m.descriptors next (is_end m.descriptions r.pipe) ≡ true
+pub reader_has : (m : MachineState) (next : ℕ) (given : List ℕ) (all : Bool) (read : List ℕ) (r : ReadsPipe m next given all read) → reaches m.descriptors next (is_end m.descriptions r.pipe) ≡ true
 reader_has m next given all read r =
     let own : (reads_from r.pipe r.opened.description.target || writes_to r.pipe r.opened.description.target) ≡ true =
     ap (λ (t : Target). reads_from r.pipe t || writes_to r.pipe t) r.opened.leads ∙ or_front (r.pipe == r.pipe) false (eq-eqb r.pipe r.pipe refl) in

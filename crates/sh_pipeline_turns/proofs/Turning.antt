@@ -161,6 +161,7 @@ module _ {S : Type 0} (m : Meaning S) where
       ∙ ap (λ (l : List ℕ). c.read ++ l) (take-append-drop count r.begun.0) ∙ r.begun.1 in
       record {
         taken = bytes;
+        begun = (drop count r.begun.0, split);
         machine = refl;
         stepped = file_step pid stage given all count bytes (drop count r.begun.0) asks none r.whole (few count (drop r.opened.description.offset r.file.bytes)) split
             (λ h. sym (append-nil c.read) ∙ ap (λ (l : List ℕ). c.read ++ l) (sym (nothing_behind count r.begun.0 least (ap (λ (l : List ℕ). take count l) (sym behind) ∙ h))) ∙ r.begun.1);

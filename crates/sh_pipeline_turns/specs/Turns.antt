@@ -8,6 +8,7 @@ use Rattle.sh_pipe.specs.Pipe.{PipeState}
 use Rattle.sh_pipeline_turns.specs.Joined.{ReadsFile, ReadsPipe, WritesFile, with_content, with_offset, with_pipe}
 use Rattle.sh_pipelines.specs.Pipelines.{Stage, StageStep, course_of, written_by}
 use Rattle.sh_stock.specs.Asking.{Meaning}
+use Rattle.sh_stock.specs.Filtering.{Begins}
 use Rattle.sh_stock.specs.declared.asking.Ask.{Ask}
 use Rattle.sh_stock.specs.declared.asking.Ask.TheVariants.{Write}
 
@@ -35,9 +36,10 @@ pub data ReadFromPipe {S : Type 0} (m : Meaning S) (s : KernelState) (pid : ℕ)
   WaitsForBytes : t.machine ≡ s → t.task ≡ task → ReadFromPipe m s pid given all stage task r t
   Took : (taken rest : List ℕ) → taken ++ rest ≡ r.state.bytes → t.machine ≡ with_pipe s r.pipe (record r.state { bytes = rest }) → Stepped m pid given all stage taken [] t.task → ReadFromPipe m s pid given all stage task r t
 
--- a read from a file: the offset goes on by what was taken
+-- a read from a file: what was taken comes next in the file, and the offset goes on by it
 pub record ReadFromFile {S : Type 0} (m : Meaning S) (s : KernelState) (pid : ℕ) (given : List ℕ) (all : Bool) (stage : Stage S) (r : ReadsFile s.machine pid given all (course_of m stage).read) (t : Turned S) : Type 0 where
   pub taken : List ℕ
+  pub begun : Begins ((course_of m stage).read ++ taken) given
   pub machine : t.machine ≡ with_offset s r.opened.place r.opened.description (r.opened.description.offset + length taken)
   pub stepped : Stepped m pid given all stage taken [] t.task
 

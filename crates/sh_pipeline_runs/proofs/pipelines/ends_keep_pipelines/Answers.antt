@@ -1,0 +1,12 @@
+use Rattle.sh_pipeline_runs.proofs.Ending.{ends_at, last_holds}
+use Rattle.sh_pipeline_runs.proofs.Laws.{ends_step}
+use Rattle.sh_pipeline_runs.proofs.pipelines.ends_keep_pipelines.Goals as goal
+
+pub returns-clause-stands : goal.returns-clause-stands
+returns-clause-stands g c = ends_at g.S.Stock.meaning
+
+pub returns-clause-steps : goal.returns-clause-steps
+returns-clause-steps g c = ends_step g.S.Stock.meaning
+
+pub returns-clause-file : goal.returns-clause-file
+returns-clause-file g c = last_holds g.S.Stock.meaning

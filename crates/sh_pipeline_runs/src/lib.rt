@@ -1,0 +1,4 @@
+//! Laws of pipelines as processes.
+#![tactic(auto)]
+
+pub mod pipelines;
