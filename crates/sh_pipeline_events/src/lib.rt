@@ -1,0 +1,4 @@
+//! Laws of pipelines at the states of the shell machine.
+#![tactic(auto)]
+
+pub mod events;
