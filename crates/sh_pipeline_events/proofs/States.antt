@@ -1,5 +1,5 @@
 -- Pipelines at the states of the shell machine, after events.
-use Rattle.std.proofs.Common.{◌≡◌, ◌≢◌, ℕ, zero, suc, List, [], ◌∷◌, Bool, true, false, not, Option, Some, None, slice_get, refl, sym, ap, ◌∙◌, subst}
+use Rattle.std.proofs.Common.{◌≡◌, ◌≢◌, ℕ, zero, suc, List, [], ◌∷◌, Bool, true, false, not, Option, Some, None, slice_get, refl, sym, ◌∙◌, subst}
 use Rattle.std.specs.Option.{option_map_or}
 use Rattle.sh_exec.specs.Processes.{turn_among}
 use Rattle.sh_exec.specs.State.{State, after_turn, task_of, with_key}
@@ -18,6 +18,7 @@ use Rattle.sh_pipeline_events.specs.Events.{AreLiving, AreTasks, GoesOnAt, Stand
 use Rattle.sh_pipeline_runs.proofs.Beside.{is_left, stands_after_key}
 use Rattle.sh_pipeline_runs.proofs.Ending.{ends_at, last_holds}
 use Rattle.sh_pipeline_runs.proofs.Laws.{beside, goes_on}
+use Rattle.sh_pipeline_runs.proofs.Turning.{among_at}
 use Rattle.sh_pipeline_runs.specs.Pipelines.{AreAlive, AreDistinct, Ends, FromPipe, HasRoom, Holds, IsAlive, IsElsewhere, IsElsewhereBefore, Joint, LeavesLast, LeavesSource, NotAmong, NotBefore, NotEnding, ReadsOther, Source, Stands, behind, with_turn}
 use Rattle.sh_pipelines.specs.Pipelines.{Stage, course_of, written_by}
 use Rattle.sh_stock.specs.Asking.{KeepsLaws, Meaning}
@@ -78,14 +79,9 @@ module _ {S : Type 0} (m : Meaning S) where
         others_are s j.pid j.task found js (subst (λ (x : Joint S). NotAmong x.pid js) same distinct.0) living.1 tasks.1,
       )
   tasks_after s j found later (i ∷ js) (suc n) at distinct living tasks = (
-    other_task s j.pid j.task found i.pid i.task (among_at i.pid js n at distinct.0) tasks.0 living.0,
+    other_task s j.pid j.task found i.pid i.task (among_at i.pid js n j distinct.0 at) tasks.0 living.0,
     tasks_after s j found later js n at distinct.1 living.1 tasks.1,
   )
-    where
-      among_at : (pid : ℕ) (ks : List (Joint S)) (k : ℕ) → slice_get ks k ≡ Some j → NotAmong pid ks → pid ≢ j.pid
-      among_at pid [] k h among = cc
-      among_at pid (x ∷ ks) zero h among = let same : x ≡ j = cc in λ e. among.0 (e ∙ ap (λ (y : Joint S). y.pid) (sym same))
-      among_at pid (x ∷ ks) (suc k) h among = among_at pid ks k h among.1
 
   pub goes_on_at : KeepsLaws m → (s : State S) (before : Option ℕ) (source : Source) (given : List ℕ) (all : Bool) (js : List (Joint S)) (n : ℕ) (j : Joint S) → slice_get js n ≡ Some j → let t = turn m s.machine j.task in
       IsAlive t.machine.machine before → AreLiving t.machine js → AreDistinct js → NotBefore before js → ReadsOther source js → NotEnding m j → HasRoom m j → StandsAt m s before source given all js

@@ -7,14 +7,8 @@ use Rattle.sh_exec.specs.Turns.{turn}
 use Rattle.sh_exec.specs.declared.task.Task.{Task}
 use Rattle.sh_kernel.specs.State.{KernelState}
 use Rattle.sh_kernel_processes.specs.Processes.{lives}
+use Rattle.sh_pipeline_runs.proofs.Links.{not_same}
 use Rattle.sh_stock.specs.Asking.{Meaning}
-
-not_same : (a b : ℕ) → a ≢ b → (a == b) ≡ false
-not_same a b n = of_test (a == b) refl
-  where
-    of_test : (t : Bool) → (a == b) ≡ t → t ≡ false
-    of_test true h = absurd (n (eqb-true a b h))
-    of_test false h = refl
 
 module _ {S : Type 0} where
   abbrev pub of_pid : ℕ → List (Task S) → Option (Task S)

@@ -20,7 +20,7 @@ use Rattle.sh_kernel_descriptors.specs.declared.fault.KernelFault.TheVariants.{N
 use Rattle.sh_kernel_descriptors.specs.Outcomes.{refusal, success}
 use Rattle.sh_kernel_descriptors.specs.declared.description.Description.{Description}
 use Rattle.sh_kernel_machine.proofs.Closing.{others_left}
-use Rattle.sh_kernel_machine.proofs.Lists.{other_place}
+use Rattle.sh_kernel_machine.proofs.Lists.{false_of, other_place}
 use Rattle.sh_kernel_machine.specs.Signals.{after_endings, with_processes}
 use Rattle.sh_kernel_processes.specs.Processes.{has_ended, lives}
 use Rattle.sh_kernel_processes.specs.declared.process.Process.{Process}
@@ -39,10 +39,6 @@ same_end es pipe d = of_option (slice_get es d.description)
     of_option None = refl
     of_option (Some e) = refl
 
-false_of_not : (b : Bool) → (b ≡ true → ⊥) → b ≡ false
-false_of_not true n = absurd (n refl)
-false_of_not false n = refl
-
 held : (pid next : ℕ) (es : List Description) (pipe : ℕ) (ds : List Descriptor) → next ≢ pid → reaches ds next (is_end es pipe) ≡ true → list_any (holds pid All es pipe) ds ≡ true
 held pid next es pipe [] n h = absurd (cc)
 held pid next es pipe (d ∷ ds) n h = of_first (d.pid == next) refl (is_end es pipe d.description) refl h (λ rest. held pid next es pipe ds n rest)
@@ -50,7 +46,7 @@ held pid next es pipe (d ∷ ds) n h = of_first (d.pid == next) refl (is_end es 
     of_first : (own : Bool) → (d.pid == next) ≡ own → (end : Bool) → is_end es pipe d.description ≡ end → ((own && end) || reaches ds next (is_end es pipe)) ≡ true
         → (reaches ds next (is_end es pipe) ≡ true → list_any (holds pid All es pipe) ds ≡ true) → (holds pid All es pipe d || list_any (holds pid All es pipe) ds) ≡ true
     of_first true own true end h others =
-        let other : (d.pid == pid) ≡ false = false_of_not (d.pid == pid) (λ e. n (sym (eqb-true d.pid next own) ∙ eqb-true d.pid pid e)) in
+        let other : (d.pid == pid) ≡ false = false_of (d.pid == pid) (λ e. n (sym (eqb-true d.pid next own) ∙ eqb-true d.pid pid e)) in
         or_front (holds pid All es pipe d) (list_any (holds pid All es pipe) ds)
         (ap (λ (b : Bool). not b && closings.is_end es pipe d) other ∙ sym (same_end es pipe d) ∙ end)
     of_first true own false end h others = or_back (holds pid All es pipe d) (list_any (holds pid All es pipe) ds) (others h)

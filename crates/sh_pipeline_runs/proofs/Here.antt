@@ -7,13 +7,14 @@ use Rattle.sh_kernel.specs.Reaching.{is_end, reaches}
 use Rattle.sh_kernel.specs.State.{KernelState}
 use Rattle.sh_kernel_descriptors.specs.Descriptors.{has_writer}
 use Rattle.sh_kernel_descriptors.specs.declared.description.Target.TheVariants.{ReadEnd, WriteEnd}
+use Rattle.sh_kernel_machine.proofs.Lists.{same_place}
 use Rattle.sh_kernel_processes.specs.Processes as processes
 use Rattle.sh_pipe.specs.Pipe.{PipeState}
 use Rattle.sh_pipeline_others.proofs.Leaving.{reader_has}
 use Rattle.sh_pipeline_others.specs.Others.{OnlyReach}
 use Rattle.sh_pipeline_runs.proofs.Acting.{IsApart, IsApartFor, SinkAt, TurnedHere, build, fed_kept, sink_kept, sink_of, writer_there}
 use Rattle.sh_pipeline_runs.proofs.Changes.{Changed, Piped, changed_content, changed_nothing, changed_offset, changed_pipe}
-use Rattle.sh_pipeline_runs.proofs.Links.{IsOutside, fed_by_file_stays, fed_piped, opened_piped, pair_goes_on, pair_outside, reached_elsewhere, set_there, writer_has}
+use Rattle.sh_pipeline_runs.proofs.Links.{IsOutside, fed_by_file_stays, fed_piped, opened_piped, pair_goes_on, pair_outside, reached_elsewhere, writer_has}
 use Rattle.sh_pipeline_runs.proofs.Standing.{go_on}
 use Rattle.sh_pipeline_runs.specs.Pipelines.{AreAlive, AreDistinct, FedByFile, FedByPipe, FromFile, FromPipe, IsAlive, IsFed, IsNotLast, Joint, NotAmong, NotBefore, ReadsOther, Source, Stands, pair}
 use Rattle.sh_pipeline_turns.specs.Joined.{WritesFile, WritesPipe, with_content, with_offset, with_pipe}
@@ -106,7 +107,7 @@ module _ {S : Type 0} (m : Meaning S) (s : KernelState) (before : Option ℕ) (g
           opened = opened_piped s j.pid 0 (ReadEnd r.pipe) r.pipe new r.opened;
           readable = r.readable;
           state = new;
-          slot = set_there s.machine.pipes r.pipe (Some r.state) (Some new) r.slot;
+          slot = same_place s.machine.pipes r.pipe (Some new) (Some r.state) r.slot;
           bytes = append_assoc read taken rest ∙ (ap (λ (l : List ℕ). read ++ l) split ∙ r.bytes);
           end = r.end;
         };
@@ -150,7 +151,7 @@ module _ {S : Type 0} (m : Meaning S) (s : KernelState) (before : Option ℕ) (g
             place = r.opened.place;
             description = record e { offset = offset };
             refers = r.opened.refers;
-            described = set_there s.machine.descriptions r.opened.place e (record e { offset = offset }) r.opened.described;
+            described = same_place s.machine.descriptions r.opened.place (record e { offset = offset }) e r.opened.described;
             leads = r.opened.leads;
           };
           readable = r.readable;
@@ -199,12 +200,12 @@ module _ {S : Type 0} (m : Meaning S) (s : KernelState) (before : Option ℕ) (g
           place = w.opened.place;
           description = record e { offset = length bytes };
           refers = w.opened.refers;
-          described = set_there s.machine.descriptions w.opened.place e (record e { offset = length bytes }) w.opened.described;
+          described = same_place s.machine.descriptions w.opened.place (record e { offset = length bytes }) e w.opened.described;
           leads = w.opened.leads;
         };
         writable = w.writable;
         file = record w.file { bytes = bytes };
-        holds = set_there s.machine.files.nodes j.to (node.File w.file) (node.File (record w.file { bytes = bytes })) w.holds;
+        holds = same_place s.machine.files.nodes j.to (node.File (record w.file { bytes = bytes })) (node.File w.file) w.holds;
         content = refl;
         offset = λ h. refl;
       } in
@@ -259,7 +260,7 @@ module _ {S : Type 0} (m : Meaning S) (s : KernelState) (before : Option ℕ) (g
           opened = opened_piped s k.pid 0 (ReadEnd r.pipe) j.to new r.opened;
           readable = r.readable;
           state = new;
-          slot = ap (λ (i : ℕ). slice_get (slice_set s.machine.pipes j.to (Some new)) i) f.same_pipe ∙ set_there s.machine.pipes j.to (Some state) (Some new) w.slot;
+          slot = ap (λ (i : ℕ). slice_get (slice_set s.machine.pipes j.to (Some new)) i) f.same_pipe ∙ same_place s.machine.pipes j.to (Some new) (Some state) w.slot;
           bytes = ap (λ (l : List ℕ). next_read ++ (l ++ bytes)) held_bytes ∙ (sym (append_assoc next_read r.state.bytes bytes) ∙ ap (λ (l : List ℕ). l ++ bytes) r.bytes);
           end = λ none. let both : true ≡ false = sym (writer_there s.machine j.pid j.to state w) ∙ (ap (λ (i : ℕ). has_writer s.machine.descriptors s.machine.descriptions i) (sym f.same_pipe) ∙ none) in absurd (cc);
         };
@@ -270,7 +271,7 @@ module _ {S : Type 0} (m : Meaning S) (s : KernelState) (before : Option ℕ) (g
       record {
         opened = opened_piped s j.pid 1 (WriteEnd j.to) j.to new w.opened;
         writable = w.writable;
-        slot = set_there s.machine.pipes j.to (Some state) (Some new) w.slot;
+        slot = same_place s.machine.pipes j.to (Some new) (Some state) w.slot;
         reader = w.reader;
       } in
       let here : TurnedHere m s before source given all j (k ∷ js) u t.task =

@@ -1,5 +1,5 @@
 -- Links of a pipeline stay where the process of another stage takes its turn.
-use Rattle.std.proofs.Common.{◌≡◌, ◌≢◌, ℕ, zero, suc, ◌==◌, ◌||◌, List, [], ◌∷◌, Bool, true, false, Option, Some, None, slice_get, slice_set, refl, sym, ap, ◌∙◌, subst, eq-eqb, eqb-true}
+use Rattle.std.proofs.Common.{◌≡◌, ◌≢◌, ℕ, ◌==◌, ◌||◌, List, Bool, true, false, Option, Some, None, slice_get, slice_set, refl, sym, ap, ◌∙◌, subst, eq-eqb, eqb-true}
 use Rattle.sh_kernel.specs.Reaching.{is_end, reaches}
 use Rattle.sh_kernel.specs.State.{KernelState}
 use Rattle.sh_kernel_descriptors.specs.Descriptors.{reads_from, writes_to}
@@ -7,7 +7,7 @@ use Rattle.sh_kernel_descriptors.specs.Machine.{MachineState}
 use Rattle.sh_kernel_descriptors.specs.declared.descriptor.DescriptorRef.TheVariants.{Number}
 use Rattle.sh_kernel_descriptors.specs.declared.description.Target.{Target}
 use Rattle.sh_kernel_descriptors.specs.declared.description.Target.TheVariants.{ReadEnd, WriteEnd}
-use Rattle.sh_kernel_machine.proofs.Lists.{other_place}
+use Rattle.sh_kernel_machine.proofs.Lists.{false_of, other_place, same_place}
 use Rattle.sh_kernel_processes.specs.Processes.{has_ended}
 use Rattle.sh_pipe.specs.Pipe.{PipeState}
 use Rattle.sh_pipeline_others.proofs.Beside.{Leaves, leads_at, or_back, or_front, still_reads, still_writes}
@@ -27,12 +27,8 @@ pub pair_first : (before pid : ℕ) → pair (Some before) pid before ≡ true
 pair_first before pid = or_front (before == before) (before == pid) (eq-eqb before before refl)
 
 -- a process that is neither
-not_same : (a b : ℕ) → a ≢ b → (a == b) ≡ false
-not_same a b n = of_test (a == b) refl
-  where
-    of_test : (t : Bool) → (a == b) ≡ t → t ≡ false
-    of_test true h = absurd (n (eqb-true a b h))
-    of_test false h = refl
+pub not_same : (a b : ℕ) → a ≢ b → (a == b) ≡ false
+not_same a b n = false_of (a == b) (λ h. n (eqb-true a b h))
 
 abbrev pub IsOutside : Option ℕ → ℕ → ℕ → Type 0
 IsOutside None pid q = q ≢ pid
@@ -68,11 +64,6 @@ writer_has m pid pipe state w =
     (leads_at (λ t. reads_from pipe t || writes_to pipe t) m.descriptions w.opened.place w.opened.description w.opened.described own)
 
 -- ---- what is written to
-pub set_there : {X : Type 0} (xs : List X) (i : ℕ) (old new : X) → slice_get xs i ≡ Some old → slice_get (slice_set xs i new) i ≡ Some new
-set_there [] i old new h = cc
-set_there (x ∷ xs) zero old new h = refl
-set_there (x ∷ xs) (suc i) old new h = set_there xs i old new h
-
 -- what a process has open isn't what is in a pipe
 abbrev pub opened_piped : (s : KernelState) (pid number : ℕ) (target : Target) (pipe : ℕ) (new : PipeState) → Opened s.machine pid number target → Opened (with_pipe s pipe new).machine pid number target
 opened_piped s pid number target pipe new o = record { place = o.place; description = o.description; refers = o.refers; described = o.described; leads = o.leads }
@@ -81,7 +72,7 @@ opened_piped s pid number target pipe new o = record { place = o.place; descript
 sink_piped : (s : KernelState) (pid to : ℕ) (state : PipeState) (pipe : ℕ) (old new : PipeState) → slice_get s.machine.pipes pipe ≡ Some (Some old) → WritesPipe s.machine pid to state → (b : Bool) → (pipe == to) ≡ b
     → (after : PipeState) × WritesPipe (with_pipe s pipe new).machine pid to after
 sink_piped s pid to state pipe old new slot w true is =
-    (new, record { opened = opened_piped s pid 1 (WriteEnd to) pipe new w.opened; writable = w.writable; slot = ap (λ (n : ℕ). slice_get (slice_set s.machine.pipes pipe (Some new)) n) (sym (eqb-true pipe to is)) ∙ set_there s.machine.pipes pipe (Some old) (Some new) slot; reader = w.reader })
+    (new, record { opened = opened_piped s pid 1 (WriteEnd to) pipe new w.opened; writable = w.writable; slot = ap (λ (n : ℕ). slice_get (slice_set s.machine.pipes pipe (Some new)) n) (sym (eqb-true pipe to is)) ∙ same_place s.machine.pipes pipe (Some new) (Some old) slot; reader = w.reader })
 sink_piped s pid to state pipe old new slot w false is =
     (state, record { opened = opened_piped s pid 1 (WriteEnd to) pipe new w.opened; writable = w.writable; slot = other_place s.machine.pipes pipe to (Some new) (λ h. let both : true ≡ false = sym (eq-eqb pipe to h) ∙ is in cc) ∙ w.slot; reader = w.reader })
 

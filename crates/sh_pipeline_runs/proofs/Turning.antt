@@ -23,6 +23,12 @@ use Rattle.sh_stock.specs.Asking.{KeepsLaws, Meaning}
 use Rattle.sh_stock.specs.declared.asking.Ask.{Ask}
 use Rattle.sh_stock.specs.declared.asking.Ask.TheVariants.{End, Idle, Read, Stop, Write}
 
+-- a process that runs none of some stages doesn't run one of them
+pub among_at : {S : Type 0} (pid : ℕ) (js : List (Joint S)) (n : ℕ) (j : Joint S) → NotAmong pid js → slice_get js n ≡ Some j → pid ≢ j.pid
+among_at pid [] n j among h = cc
+among_at pid (k ∷ js) zero j among h = let same : k ≡ j = cc in λ e. among.0 (e ∙ ap (λ x. x.pid) (sym same))
+among_at pid (k ∷ js) (suc n) j among h = among_at pid js n j among.1 h
+
 module _ {S : Type 0} (m : Meaning S) (laws : KeepsLaws m) where
   -- ---- the first stage
   module _ (s : KernelState) (before : Option ℕ) (given : List ℕ) (all : Bool) (j : Joint S) (js : List (Joint S)) where
@@ -80,11 +86,6 @@ module _ {S : Type 0} (m : Meaning S) (laws : KeepsLaws m) where
   here s before given all j js (End status) asks on room source = absurd (on status asks)
 
   -- ---- a stage among others
-  among_at : (pid : ℕ) (js : List (Joint S)) (n : ℕ) (j : Joint S) → NotAmong pid js → slice_get js n ≡ Some j → pid ≢ j.pid
-  among_at pid [] n j among h = cc
-  among_at pid (k ∷ js) zero j among h = let same : k ≡ j = cc in λ e. among.0 (e ∙ ap (λ (x : Joint S). x.pid) (sym same))
-  among_at pid (k ∷ js) (suc n) j among h = among_at pid js n j among.1 h
-
   not_before : (before : Option ℕ) (js : List (Joint S)) (n : ℕ) (j : Joint S) → NotBefore before js → slice_get js n ≡ Some j → IsNot before j.pid
   not_before None js n j among h = tt
   not_before (Some b) js n j among h = λ e. among_at b js n j among h (sym e)
