@@ -48,7 +48,8 @@ IsFed s before (FromPipe pipe) given all pid read = FedByPipe s before pipe give
 IsFed s before (FromFile number) given all pid read = FedByFile s number given all pid read
 
 -- the stages from one on: each is run by its process and is fed, what it writes goes to the pipe from which the next one reads, and what the last
--- one writes to a file
+-- one writes to a file. The first has been given these bytes so far, and no more are to come where `all` is true; the pipe from which it reads
+-- may have the process `before` for a writer
 abbrev pub Stands : {S : Type 0} → Meaning S → MachineState → (before : Option ℕ) → Source → (given : List ℕ) → (all : Bool) → List (Joint S) → Type 0
 Stands m s before source given all [] = Unit {0}
 Stands m s before source given all (j ∷ []) = Runs m j.pid j.stage j.task × IsFed s before source given all j.pid (course_of m j.stage).read × WritesFile s j.pid j.to (written_by m j.stage)
