@@ -7,7 +7,7 @@ use Rattle.sh_exec.specs.Turns.{turn}
 use Rattle.sh_exec.specs.declared.task.Task.{Task}
 use Rattle.sh_kernel.specs.State.{KernelState}
 use Rattle.sh_kernel_processes.specs.Processes.{lives}
-use Rattle.sh_pipeline_runs.proofs.Links.{not_same}
+use Rattle.sh_pipeline_stages.proofs.Links.{not_same}
 use Rattle.sh_stock.specs.Asking.{Meaning}
 
 module _ {S : Type 0} where

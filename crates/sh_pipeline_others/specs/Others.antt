@@ -21,8 +21,8 @@ pub record IsBeside (owners : ℕ → Bool) (other : ℕ) (old new : MachineStat
   pub alive : AllGoOn owners new
 
 -- the process still reads from this pipe, in which the same is
-pub record StillReads (owners : ℕ → Bool) (m : MachineState) (pid : ℕ) (given : List ℕ) (all : Bool) (read : List ℕ) (pipe : ℕ) (state : PipeState) : Type 0 where
-  pub reads : ReadsPipe m pid given all read
+pub record StillReads (owners : ℕ → Bool) (m : MachineState) (pid : ℕ) (given : List ℕ) (complete : Bool) (read : List ℕ) (pipe : ℕ) (state : PipeState) : Type 0 where
+  pub reads : ReadsPipe m pid given complete read
   pub same_pipe : reads.pipe ≡ pipe
   pub same_state : reads.state ≡ state
   pub alone : OnlyReach owners m pipe
@@ -36,6 +36,6 @@ abbrev pub OnlyReachFile : (owners : ℕ → Bool) → MachineState → (number 
 OnlyReachFile owners m number = (q : ℕ) → owners q ≡ false → reaches m.descriptors q (is_file m.descriptions number) ≡ false
 
 -- the process still reads from this file
-pub record StillReadsFile (m : MachineState) (pid : ℕ) (given : List ℕ) (all : Bool) (read : List ℕ) (number : ℕ) : Type 0 where
-  pub reads : ReadsFile m pid given all read
+pub record StillReadsFile (m : MachineState) (pid : ℕ) (given : List ℕ) (complete : Bool) (read : List ℕ) (number : ℕ) : Type 0 where
+  pub reads : ReadsFile m pid given complete read
   pub same_file : reads.number ≡ number

@@ -12,9 +12,9 @@ ghost use Rattle.sh_pipeline_others.specs.Others.{AllGoOn, IsBeside, OnlyReach, 
 /// (`turns_change_what_is_reached` of `sh_laws`), leaves the pipe's bytes. A process that reads from the pipe still does, and comes to the end of
 /// file no sooner. A process that writes to it still does, and the pipe still has a reader. And only those processes reach it then.
 pub fn others_leave_pipes()
-    ensures reads { (s t : KernelState) (other : ℕ) (made : Option ℕ) (directory : List ℕ) (owners : ℕ → Bool) (pid : ℕ) (given : List ℕ) (all : Bool) (read : List ℕ)
+    ensures reads { (s t : KernelState) (other : ℕ) (made : Option ℕ) (directory : List ℕ) (owners : ℕ → Bool) (pid : ℕ) (given : List ℕ) (complete : Bool) (read : List ℕ)
         → ChangesByRequests other made directory s t → IsBeside owners other s.machine t.machine → owners pid ≡ true
-        → (r : ReadsPipe s.machine pid given all read) → OnlyReach owners s.machine r.pipe → StillReads owners t.machine pid given all read r.pipe r.state }
+        → (r : ReadsPipe s.machine pid given complete read) → OnlyReach owners s.machine r.pipe → StillReads owners t.machine pid given complete read r.pipe r.state }
     ensures writes { (s t : KernelState) (other : ℕ) (made : Option ℕ) (directory : List ℕ) (owners : ℕ → Bool) (pid pipe : ℕ) (state : PipeState)
         → ChangesByRequests other made directory s t → IsBeside owners other s.machine t.machine → owners pid ≡ true
         → WritesPipe s.machine pid pipe state → OnlyReach owners s.machine pipe → StillWrites owners t.machine pid pipe state }
@@ -22,8 +22,8 @@ pub fn others_leave_pipes()
 
 /// Law: so does a key of the terminal, where none of those processes ends by it.
 pub fn keys_leave_pipes()
-    ensures reads { (s : KernelState) (byte : ℕ) (owners : ℕ → Bool) (pid : ℕ) (given : List ℕ) (all : Bool) (read : List ℕ) → AllGoOn owners (after_key s byte).machine → owners pid ≡ true
-        → (r : ReadsPipe s.machine pid given all read) → OnlyReach owners s.machine r.pipe → StillReads owners (after_key s byte).machine pid given all read r.pipe r.state }
+    ensures reads { (s : KernelState) (byte : ℕ) (owners : ℕ → Bool) (pid : ℕ) (given : List ℕ) (complete : Bool) (read : List ℕ) → AllGoOn owners (after_key s byte).machine → owners pid ≡ true
+        → (r : ReadsPipe s.machine pid given complete read) → OnlyReach owners s.machine r.pipe → StillReads owners (after_key s byte).machine pid given complete read r.pipe r.state }
     ensures writes { (s : KernelState) (byte : ℕ) (owners : ℕ → Bool) (pid pipe : ℕ) (state : PipeState) → AllGoOn owners (after_key s byte).machine → owners pid ≡ true
         → WritesPipe s.machine pid pipe state → OnlyReach owners s.machine pipe → StillWrites owners (after_key s byte).machine pid pipe state }
 {}
@@ -31,17 +31,17 @@ pub fn keys_leave_pipes()
 /// Law: where a process ends by itself, another one that reads from a pipe, and doesn't end by it, still does. What the pipe holds stays until it is
 /// read, also where the process that has ended wrote it; and that no more is to come may be taken as known then.
 pub fn ends_leave_pipes()
-    ensures { (s : KernelState) (pid status : ℕ) (owners : ℕ → Bool) (next : ℕ) (given : List ℕ) (all : Bool) (read : List ℕ)
-        → (r : ReadsPipe s.machine next given all read) → OnlyReach owners s.machine r.pipe → has_ended (end_call s pid status).after.machine.processes next ≡ false
+    ensures { (s : KernelState) (pid status : ℕ) (owners : ℕ → Bool) (next : ℕ) (given : List ℕ) (complete : Bool) (read : List ℕ)
+        → (r : ReadsPipe s.machine next given complete read) → OnlyReach owners s.machine r.pipe → has_ended (end_call s pid status).after.machine.processes next ≡ false
         → StillReads owners (end_call s pid status).after.machine next given true read r.pipe r.state }
 {}
 
 /// Law: where only some processes reach a file, and none of them ends, what another process does by its requests leaves the file, as long as it doesn't
 /// open it. A process that reads from the file still does, and one that writes to it still does.
 pub fn others_leave_files()
-    ensures reads { (s t : KernelState) (other : ℕ) (made : Option ℕ) (directory : List ℕ) (owners : ℕ → Bool) (pid : ℕ) (given : List ℕ) (all : Bool) (read : List ℕ)
+    ensures reads { (s t : KernelState) (other : ℕ) (made : Option ℕ) (directory : List ℕ) (owners : ℕ → Bool) (pid : ℕ) (given : List ℕ) (complete : Bool) (read : List ℕ)
         → (c : ChangesByRequests other made directory s t) → IsBeside owners other s.machine t.machine → owners pid ≡ true
-        → (r : ReadsFile s.machine pid given all read) → OnlyReachFile owners s.machine r.number → opens_by s c.requests r.number ≡ false → StillReadsFile t.machine pid given all read r.number }
+        → (r : ReadsFile s.machine pid given complete read) → OnlyReachFile owners s.machine r.number → opens_by s c.requests r.number ≡ false → StillReadsFile t.machine pid given complete read r.number }
     ensures writes { (s t : KernelState) (other : ℕ) (made : Option ℕ) (directory : List ℕ) (owners : ℕ → Bool) (pid number : ℕ) (written : List ℕ)
         → (c : ChangesByRequests other made directory s t) → IsBeside owners other s.machine t.machine → owners pid ≡ true
         → WritesFile s.machine pid number written → OnlyReachFile owners s.machine number → opens_by s c.requests number ≡ false → WritesFile t.machine pid number written }
@@ -49,8 +49,8 @@ pub fn others_leave_files()
 
 /// Law: so does a key of the terminal, whoever reaches the file, where the process doesn't end by it.
 pub fn keys_leave_files()
-    ensures reads { (s : KernelState) (byte pid : ℕ) (given : List ℕ) (all : Bool) (read : List ℕ) → has_ended (after_key s byte).machine.processes pid ≡ false
-        → (r : ReadsFile s.machine pid given all read) → StillReadsFile (after_key s byte).machine pid given all read r.number }
+    ensures reads { (s : KernelState) (byte pid : ℕ) (given : List ℕ) (complete : Bool) (read : List ℕ) → has_ended (after_key s byte).machine.processes pid ≡ false
+        → (r : ReadsFile s.machine pid given complete read) → StillReadsFile (after_key s byte).machine pid given complete read r.number }
     ensures writes { (s : KernelState) (byte pid number : ℕ) (written : List ℕ) → has_ended (after_key s byte).machine.processes pid ≡ false
         → WritesFile s.machine pid number written → WritesFile (after_key s byte).machine pid number written }
 {}

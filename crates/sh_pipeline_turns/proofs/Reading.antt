@@ -1,5 +1,5 @@
 -- Reads of processes that run stages.
-use Rattle.std.proofs.Common.{◌≡◌, ℕ, ◌≤◌, ◌+◌, ◌&&◌, List, [], ◌∷◌, ◌++◌, length, take, drop, Bool, false, cond, Option, Some, slice_get, sym, ap, ◌∙◌, subst, option_and_then}
+use Rattle.std.proofs.Common.{◌≡◌, ℕ, ◌≤◌, ◌+◌, ◌&&◌, List, [], ◌∷◌, ◌++◌, length, take, drop, Bool, true, false, cond, Option, Some, slice_get, sym, ap, ◌∙◌, subst, option_and_then}
 use Rattle.std.specs.Option.{option_map_or}
 use Rattle.sh_exec_machine.specs.Transfers.{Taking, take_bytes, taken_by}
 use Rattle.sh_exec_machine.specs.declared.transfer.ReadOutcome.TheVariants as taken
@@ -46,7 +46,7 @@ pipe_call s pid count given all read r =
 
 -- it waits, comes to the end of file, or takes some of what is in the pipe
 pub data PipeTaken (s : KernelState) (pipe : ℕ) (state : PipeState) (writer : Bool) (count : ℕ) (t : Taking) : Type 0 where
-  StaysEmpty : t ≡ record { told = taken.Wait; after = s } → PipeTaken s pipe state writer count t
+  StaysEmpty : state.bytes ≡ [] → writer ≡ true → t ≡ record { told = taken.Wait; after = s } → PipeTaken s pipe state writer count t
   Ended : state.bytes ≡ [] → writer ≡ false → t ≡ record { told = taken.Bytes []; after = s } → PipeTaken s pipe state writer count t
   TookSome : (byte : ℕ) (others rest : List ℕ) → (byte ∷ others) ++ rest ≡ state.bytes → length (byte ∷ others) ≤ count → t ≡ record { told = taken.Bytes (byte ∷ others); after = with_pipe s pipe (record state { bytes = rest }) }
       → PipeTaken s pipe state writer count t
@@ -59,8 +59,8 @@ with_pipes s pipes = record s { machine = record s.machine { pipes = pipes } }
 
 of_slot : (s : KernelState) (pipe : ℕ) (state : PipeState) (writer : Bool) (count : ℕ) (d : Done (Option PipeState) (List ℕ)) → slice_get s.machine.pipes pipe ≡ Some (Some state)
     → SlotRead state writer count d → PipeTaken s pipe state writer count (taking (pipe_done s pipe d))
-of_slot s pipe state writer count d slot (Waits none h) =
-    StaysEmpty (ap (λ (e : Done (Option PipeState) (List ℕ)). taking (pipe_done s pipe e)) h
+of_slot s pipe state writer count d slot (Waits none written_to h) =
+    StaysEmpty none written_to (ap (λ (e : Done (Option PipeState) (List ℕ)). taking (pipe_done s pipe e)) h
     ∙ ap (λ (pipes : Pipes). let t : Taking = record { told = taken.Wait; after = with_pipes s pipes } in t) (set_same s.machine.pipes pipe (Some state) slot))
 of_slot s pipe state writer count d slot (IsAtEnd none end h) =
     Ended none end (ap (λ (e : Done (Option PipeState) (List ℕ)). taking (pipe_done s pipe e)) h

@@ -3,7 +3,7 @@ use Rattle.std.proofs.Common.{◌≡◌, ℕ, zero, suc, ◌-◌, ◌≤◌, min
 use Rattle.sh_kernel_descriptors.specs.Outcomes.{Done}
 use Rattle.sh_kernel_descriptors.specs.Reading.{pipe_bytes, read_slot}
 use Rattle.sh_kernel_descriptors.specs.declared.fault.KernelFault.TheVariants.{WouldWait}
-use Rattle.sh_pipe.specs.Pipe.{PipeState, count_of}
+use Rattle.sh_pipe.specs.Pipe.{PipeState, count_of, write_result}
 use Rattle.sh_kernel_descriptors.specs.Writing.{pipe_count, write_slot}
 use Rattle.sh_pipe.specs.declared.PipeFault.{PipeFault}
 use Rattle.sh_pipe.specs.declared.PipeFault.TheVariants as fault
@@ -25,7 +25,7 @@ takes (suc n) byte bytes h = Some_of byte (take n bytes) refl (take-append-drop 
 -- ---- a read
 -- it waits, or comes to the end of file, or takes some of what is there
 pub data SlotRead (state : PipeState) (writer : Bool) (count : ℕ) (d : Done (Option PipeState) (List ℕ)) : Type 0 where
-  Waits : state.bytes ≡ [] → d ≡ record { answer = Err WouldWait; after = Some state } → SlotRead state writer count d
+  Waits : state.bytes ≡ [] → writer ≡ true → d ≡ record { answer = Err WouldWait; after = Some state } → SlotRead state writer count d
   IsAtEnd : state.bytes ≡ [] → writer ≡ false → d ≡ record { answer = Ok []; after = Some state } → SlotRead state writer count d
   Takes : (byte : ℕ) (others rest : List ℕ) → (byte ∷ others) ++ rest ≡ state.bytes → length (byte ∷ others) ≤ count → d ≡ record { answer = Ok (byte ∷ others); after = Some (record state { bytes = rest }) }
       → SlotRead state writer count d
@@ -48,31 +48,33 @@ some_read byte bytes capacity writer count least =
 
 pub slot_read : (bytes : List ℕ) (capacity : ℕ) (writer : Bool) (count : ℕ) → 1 ≤ count
     → SlotRead (record { bytes = bytes; capacity = capacity }) writer count (read_slot writer count (Some (record { bytes = bytes; capacity = capacity })))
-slot_read [] capacity true count least = Waits refl refl
+slot_read [] capacity true count least = Waits refl refl refl
 slot_read [] capacity false count least = IsAtEnd refl refl refl
 slot_read (byte ∷ bytes) capacity writer count least = some_read byte bytes capacity writer count least
 
 -- ---- a write
 -- it waits, or so many of the bytes go
 pub data SlotWrite (state : PipeState) (bytes : List ℕ) (d : Done (Option PipeState) ℕ) : Type 0 where
-  MustWait : d ≡ record { answer = Err WouldWait; after = Some state } → SlotWrite state bytes d
+  MustWait : write_result state bytes true ≡ Err fault.WouldWait → d ≡ record { answer = Err WouldWait; after = Some state } → SlotWrite state bytes d
   Go : (count : ℕ) → count ≤ length bytes → d ≡ record { answer = Ok count; after = Some (record state { bytes = state.bytes ++ take count bytes }) } → SlotWrite state bytes d
 
 abbrev written : PipeState → List ℕ → Result ℕ PipeFault → Done (Option PipeState) ℕ
 written state bytes r = record { answer = pipe_count r; after = Some (record state { bytes = state.bytes ++ take (count_of r) bytes }) }
 
-waiting : (state : PipeState) (bytes : List ℕ) → SlotWrite state bytes (written state bytes (Err fault.WouldWait))
-waiting state bytes =
-    MustWait (ap (λ (bs : List ℕ). let d : Done (Option PipeState) ℕ = record { answer = Err WouldWait; after = Some (record state { bytes = bs }) } in d) (append-nil state.bytes))
+waiting : (state : PipeState) (bytes : List ℕ) → write_result state bytes true ≡ Err fault.WouldWait → SlotWrite state bytes (written state bytes (Err fault.WouldWait))
+waiting state bytes full =
+    MustWait full (ap (λ (bs : List ℕ). let d : Done (Option PipeState) ℕ = record { answer = Err WouldWait; after = Some (record state { bytes = bs }) } in d) (append-nil state.bytes))
 
-by_tests : (state : PipeState) (bytes : List ℕ) (free : ℕ) (small fits some : Bool)
-    → SlotWrite state bytes (written state bytes (cond small (cond fits (Ok (length bytes)) (Err fault.WouldWait)) (cond some (Ok (min free (length bytes))) (Err fault.WouldWait))))
-by_tests state bytes free true true some = Go (length bytes) (omega arith) refl
-by_tests state bytes free true false some = waiting state bytes
-by_tests state bytes free false fits true = Go (min free (length bytes)) (omega arith) refl
-by_tests state bytes free false fits false = waiting state bytes
+abbrev counted : (bytes : List ℕ) (free : ℕ) (small fits some : Bool) → Result ℕ PipeFault
+counted bytes free small fits some = cond small (cond fits (Ok (length bytes)) (Err fault.WouldWait)) (cond some (Ok (min free (length bytes))) (Err fault.WouldWait))
+
+by_tests : (state : PipeState) (bytes : List ℕ) (free : ℕ) (small fits some : Bool) → write_result state bytes true ≡ counted bytes free small fits some → SlotWrite state bytes (written state bytes (counted bytes free small fits some))
+by_tests state bytes free true true some h = Go (length bytes) (omega arith) refl
+by_tests state bytes free true false some h = waiting state bytes h
+by_tests state bytes free false fits true h = Go (min free (length bytes)) (omega arith) refl
+by_tests state bytes free false fits false h = waiting state bytes h
 
 pub slot_write : (state : PipeState) (bytes : List ℕ) → SlotWrite state bytes (write_slot bytes (Some state))
 slot_write state bytes =
     let free = state.capacity - length state.bytes in
-    by_tests state bytes free (nat_le (length bytes) 512) (nat_le (length bytes) free) (nat_lt 0 free)
+    by_tests state bytes free (nat_le (length bytes) 512) (nat_le (length bytes) free) (nat_lt 0 free) refl

@@ -16,6 +16,7 @@ use Rattle.sh_pipe.specs.Pipe.{PipeState}
 use Rattle.sh_pipeline_turns.proofs.FileWriting.{file_given}
 use Rattle.sh_pipeline_turns.proofs.Reading.{Ended, PipeTaken, StaysEmpty, TookSome, file_taken, file_taken_by, pipe_taken}
 use Rattle.sh_pipeline_turns.proofs.Slots.{set_same}
+use Rattle.sh_pipeline_turns.proofs.Waiting.{reads_wait, writes_wait}
 use Rattle.sh_pipeline_turns.proofs.Writing.{GaveAll, GaveSome, PipeGiven, StaysFull, pipe_given}
 use Rattle.sh_pipeline_turns.specs.Joined.{ReadsFile, ReadsPipe, WritesFile, WritesPipe}
 use Rattle.sh_pipeline_turns.specs.Turns.{IsLeft, Part, ReadFromFile, ReadFromPipe, Runs, Stepped, Took, WaitsForBytes, WaitsForRoom, Went, Whole, WrittenToFile, WrittenToPipe}
@@ -89,9 +90,9 @@ module _ {S : Type 0} (m : Meaning S) where
   from_pipe : (s : KernelState) (pid : ℕ) (stage : Stage S) (given : List ℕ) (all : Bool) (count : ℕ) (t : Taking) → (course_of m stage).ask ≡ Read count → stage.gone ≡ [] → (r : ReadsPipe s.machine pid given all (course_of m stage).read)
       → PipeTaken s r.pipe r.state (has_writer s.machine.descriptors s.machine.descriptions r.pipe) count t
       → ReadFromPipe m s pid given all stage (Asks pid (Read count) (course_of m stage).program) r (by_program pid (with_next t.after (read_by m count (course_of m stage).program t.told)))
-  from_pipe s pid stage given all count t asks none r (StaysEmpty h) =
+  from_pipe s pid stage given all count t asks none r (StaysEmpty empty written_to h) =
       let c = course_of m stage in
-      subst (λ (u : Taking). ReadFromPipe m s pid given all stage (Asks pid (Read count) c.program) r (by_program pid (with_next u.after (read_by m count c.program u.told)))) (sym h) (WaitsForBytes refl refl)
+      subst (λ (u : Taking). ReadFromPipe m s pid given all stage (Asks pid (Read count) c.program) r (by_program pid (with_next u.after (read_by m count c.program u.told)))) (sym h) (WaitsForBytes (reads_wait s pid count c.program given all c.read r empty written_to) empty written_to refl refl)
   from_pipe s pid stage given all count t asks none r (Ended empty end h) =
       let c = course_of m stage in
       let whole : c.read ≡ given = sym (append-nil c.read) ∙ ap (λ (l : List ℕ). c.read ++ l) (sym empty) ∙ r.bytes in
@@ -209,16 +210,16 @@ module _ {S : Type 0} (m : Meaning S) where
         writes = sym (append_assoc c.written stage.gone (take count rest));
       }
 
-  to_pipe : (s : KernelState) (pid : ℕ) (stage : Stage S) (given : List ℕ) (all : Bool) (pipe : ℕ) (state : PipeState) (rest : List ℕ) (g : Giving) → (course_of m stage).ask ≡ Write (stage.gone ++ rest) → PipeGiven s pipe state rest g
+  to_pipe : (s : KernelState) (pid : ℕ) (stage : Stage S) (given : List ℕ) (all : Bool) (pipe : ℕ) (state : PipeState) (rest : List ℕ) (g : Giving) → WritesPipe s.machine pid pipe state → (course_of m stage).ask ≡ Write (stage.gone ++ rest) → PipeGiven s pipe state rest g
       → WrittenToPipe m s pid given all stage (Asks pid (Write rest) (course_of m stage).program) pipe state (by_program pid (with_next g.after (write_by m rest (course_of m stage).program g.told)))
-  to_pipe s pid stage given all pipe state rest g asks (StaysFull h) =
+  to_pipe s pid stage given all pipe state rest g w asks (StaysFull full h) =
       let c = course_of m stage in
-      subst (λ (u : Giving). WrittenToPipe m s pid given all stage (Asks pid (Write rest) c.program) pipe state (by_program pid (with_next u.after (write_by m rest c.program u.told)))) (sym h) (WaitsForRoom refl refl)
-  to_pipe s pid stage given all pipe state rest g asks (GaveSome count less h) =
+      subst (λ (u : Giving). WrittenToPipe m s pid given all stage (Asks pid (Write rest) c.program) pipe state (by_program pid (with_next u.after (write_by m rest c.program u.told)))) (sym h) (WaitsForRoom (writes_wait s pid pipe state rest c.program w full) rest refl full refl refl)
+  to_pipe s pid stage given all pipe state rest g w asks (GaveSome count less h) =
       let c = course_of m stage in
       subst (λ (u : Giving). WrittenToPipe m s pid given all stage (Asks pid (Write rest) c.program) pipe state (by_program pid (with_next u.after (write_by m rest c.program u.told)))) (sym h)
       (Went (take count rest) refl (part_step pid stage given all rest count less asks))
-  to_pipe s pid stage given all pipe state rest g asks (GaveAll h) =
+  to_pipe s pid stage given all pipe state rest g w asks (GaveAll h) =
       let c = course_of m stage in
       subst (λ (u : Giving). WrittenToPipe m s pid given all stage (Asks pid (Write rest) c.program) pipe state (by_program pid (with_next u.after (write_by m rest c.program u.told)))) (sym h)
       (Went rest refl (whole_step pid stage given all rest asks))
@@ -230,7 +231,7 @@ module _ {S : Type 0} (m : Meaning S) where
       let c = course_of m stage in
       let l = write_left c.ask stage.gone runs.left bytes runs.is_left asks (writes_some laws stage.program stage.answers bytes asks) in
       subst (λ (u : Task S). WrittenToPipe m s pid given all stage u pipe state (turn m s u)) (sym (runs.same ∙ ap (λ (a : Ask). Asks pid a c.program) l.same))
-      (to_pipe s pid stage given all pipe state l.rest (give_bytes s pid 1 l.rest) l.writes (pipe_given s pid pipe state l.rest w))
+      (to_pipe s pid stage given all pipe state l.rest (give_bytes s pid 1 l.rest) w l.writes (pipe_given s pid pipe state l.rest w))
 
   -- a file has room for what is left where it has room for all
   fits : (written gone : List ℕ) (byte : ℕ) (rest bytes : List ℕ) → bytes ≡ gone ++ byte ∷ rest → length (written ++ bytes) ≤ 1073741824 → write_fits (length (written ++ gone)) (byte ∷ rest) ≡ true

@@ -1,5 +1,5 @@
 -- Writes of processes that run stages.
-use Rattle.std.proofs.Common.{◌≡◌, ℕ, ◌≤◌, ◌<◌, ◌&&◌, List, [], ◌∷◌, ◌++◌, length, take, Bool, true, false, cond, nat_lt, Option, Some, slice_get, refl, sym, ap, ◌∙◌, subst, append-nil, ltb-false, ltb-true, take_all, option_and_then}
+use Rattle.std.proofs.Common.{◌≡◌, ℕ, ◌≤◌, ◌<◌, ◌&&◌, List, [], ◌∷◌, ◌++◌, length, take, Bool, true, false, cond, nat_lt, Option, Some, Err, slice_get, refl, sym, ap, ◌∙◌, subst, append-nil, ltb-false, ltb-true, take_all, option_and_then}
 use Rattle.std.specs.Option.{option_map_or}
 use Rattle.sh_exec_machine.specs.Transfers.{Giving, give_bytes, given_by}
 use Rattle.sh_exec_machine.specs.declared.transfer.WriteOutcome.TheVariants as given
@@ -16,7 +16,8 @@ use Rattle.sh_kernel_descriptors.specs.declared.description.Description.{Descrip
 use Rattle.sh_kernel_descriptors.specs.declared.description.Target.{Target}
 use Rattle.sh_kernel_descriptors.specs.declared.description.Target.TheVariants.{WriteEnd}
 use Rattle.sh_kernel_descriptors.specs.declared.fault.KernelFault.TheVariants.{BadDescriptor, BrokenPipe}
-use Rattle.sh_pipe.specs.Pipe.{PipeState}
+use Rattle.sh_pipe.specs.Pipe.{PipeState, write_result}
+use Rattle.sh_pipe.specs.declared.PipeFault.TheVariants as fault
 use Rattle.sh_pipeline_turns.proofs.Slots.{Go, MustWait, SlotWrite, set_same, slot_write}
 use Rattle.sh_pipeline_turns.specs.Joined.{Opened, WritesPipe, with_pipe}
 
@@ -32,7 +33,7 @@ write_opened s pid number bytes target o =
     (write_machine s pid (cond o.description.writable (cond (is_empty bytes) (success 0 s.machine) (write_target s.machine bytes o.place o.description t)) (refusal s.machine BadDescriptor)))) o.leads
 
 -- ---- to a pipe
-abbrev pipe_done : MachineState → (pipe : ℕ) → Done (Option PipeState) ℕ → Done MachineState ℕ
+abbrev pub pipe_done : MachineState → (pipe : ℕ) → Done (Option PipeState) ℕ → Done MachineState ℕ
 pipe_done m pipe d = on_pipes m (at_place m.pipes pipe d)
 
 abbrev with_pipes : KernelState → Pipes → KernelState
@@ -52,7 +53,7 @@ pipe_call s pid pipe state byte bytes w =
 
 -- it waits, or some of the bytes go, or all
 pub data PipeGiven (s : KernelState) (pipe : ℕ) (state : PipeState) (bytes : List ℕ) (g : Giving) : Type 0 where
-  StaysFull : g ≡ record { told = given.Wait; after = s } → PipeGiven s pipe state bytes g
+  StaysFull : write_result state bytes true ≡ Err fault.WouldWait → g ≡ record { told = given.Wait; after = s } → PipeGiven s pipe state bytes g
   GaveSome : (count : ℕ) → count < length bytes → g ≡ record { told = given.Part count; after = with_pipe s pipe (record state { bytes = state.bytes ++ take count bytes }) } → PipeGiven s pipe state bytes g
   GaveAll : g ≡ record { told = given.Whole; after = with_pipe s pipe (record state { bytes = state.bytes ++ bytes }) } → PipeGiven s pipe state bytes g
 
@@ -64,8 +65,8 @@ by_count s pipe state bytes count false most h =
 
 of_slot : (s : KernelState) (pid pipe : ℕ) (state : PipeState) (bytes : List ℕ) (d : Done (Option PipeState) ℕ) → slice_get s.machine.pipes pipe ≡ Some (Some state) → SlotWrite state bytes d
     → PipeGiven s pipe state bytes (giving (length bytes) (write_machine s pid (pipe_done s.machine pipe d)))
-of_slot s pid pipe state bytes d slot (MustWait h) =
-    StaysFull (ap (λ (e : Done (Option PipeState) ℕ). giving (length bytes) (write_machine s pid (pipe_done s.machine pipe e))) h
+of_slot s pid pipe state bytes d slot (MustWait full h) =
+    StaysFull full (ap (λ (e : Done (Option PipeState) ℕ). giving (length bytes) (write_machine s pid (pipe_done s.machine pipe e))) h
     ∙ ap (λ (pipes : Pipes). let g : Giving = record { told = given.Wait; after = with_pipes s pipes } in g) (set_same s.machine.pipes pipe (Some state) slot))
 of_slot s pid pipe state bytes d slot (Go count most h) =
     subst (λ (g : Giving). PipeGiven s pipe state bytes g) (sym (ap (λ (e : Done (Option PipeState) ℕ). giving (length bytes) (write_machine s pid (pipe_done s.machine pipe e))) h))

@@ -21,17 +21,17 @@ pub record Opened (m : MachineState) (pid number : ℕ) (target : Target) : Type
   pub leads : description.target ≡ target
 
 -- descriptor 0 leads to a pipe: what was read, and then what is in the pipe, are what was given. Where it has no writer no more is to come
-pub record ReadsPipe (m : MachineState) (pid : ℕ) (given : List ℕ) (all : Bool) (read : List ℕ) : Type 0 where
+pub record ReadsPipe (m : MachineState) (pid : ℕ) (given : List ℕ) (complete : Bool) (read : List ℕ) : Type 0 where
   pub pipe : ℕ
   pub opened : Opened m pid 0 (ReadEnd pipe)
   pub readable : opened.description.readable ≡ true
   pub state : PipeState
   pub slot : slice_get m.pipes pipe ≡ Some (Some state)
   pub bytes : read ++ state.bytes ≡ given
-  pub end : has_writer m.descriptors m.descriptions pipe ≡ false → all ≡ true
+  pub end : has_writer m.descriptors m.descriptions pipe ≡ false → complete ≡ true
 
 -- descriptor 0 leads to a regular file, which holds what was given, and was read up to its offset
-pub record ReadsFile (m : MachineState) (pid : ℕ) (given : List ℕ) (all : Bool) (read : List ℕ) : Type 0 where
+pub record ReadsFile (m : MachineState) (pid : ℕ) (given : List ℕ) (complete : Bool) (read : List ℕ) : Type 0 where
   pub number : ℕ
   pub opened : Opened m pid 0 (File number)
   pub readable : opened.description.readable ≡ true
@@ -40,7 +40,7 @@ pub record ReadsFile (m : MachineState) (pid : ℕ) (given : List ℕ) (all : Bo
   pub content : file.bytes ≡ given
   pub begun : Begins read given
   pub offset : opened.description.offset ≡ length read
-  pub whole : all ≡ true
+  pub whole : complete ≡ true
 
 -- descriptor 1 leads to a pipe, which has a reader
 pub record WritesPipe (m : MachineState) (pid pipe : ℕ) (state : PipeState) : Type 0 where

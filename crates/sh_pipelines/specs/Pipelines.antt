@@ -53,24 +53,24 @@ abbrev pub AreAtStart : {S : Type 0} → Meaning S → (List ℕ → List (List 
 AreAtStart m filtering [] = Unit {0}
 AreAtStart m filtering (s ∷ stages) = IsAtStart m filtering s × AreAtStart m filtering stages
 
--- a step of one stage, which has been given these bytes so far, and no more are to come where `all` is true. It reads some of them that it
+-- a step of one stage, which has been given these bytes so far, and no more are to come where `complete` is true. It reads some of them that it
 -- hasn't read; or the end of file, which is there once it has read all and no more are to come. Some of what it writes goes, or all that is
 -- left of it. It is stopped and continued, idles, or ends
-pub data StageStep {S : Type 0} (m : Meaning S) (given : List ℕ) (all : Bool) (s : Stage S) : Stage S → Type 0 where
+pub data StageStep {S : Type 0} (m : Meaning S) (given : List ℕ) (complete : Bool) (s : Stage S) : Stage S → Type 0 where
   Reads : (count byte : ℕ) (bytes : List ℕ) → (course_of m s).ask ≡ Read count → length (byte ∷ bytes) ≤ count
-      → Begins ((course_of m s).read ++ byte ∷ bytes) given → StageStep m given all s (answered s (Bytes (byte ∷ bytes)))
-  ReadsEnd : (count : ℕ) → (course_of m s).ask ≡ Read count → (course_of m s).read ≡ given → all ≡ true → StageStep m given all s (answered s (Bytes []))
-  Writes : (bytes rest : List ℕ) → (course_of m s).ask ≡ Write (s.gone ++ (bytes ++ rest)) → StageStep m given all s (record s { gone = s.gone ++ bytes })
-  WritesAll : (rest : List ℕ) → (course_of m s).ask ≡ Write (s.gone ++ rest) → StageStep m given all s (answered s Done)
-  Stops : (course_of m s).ask ≡ Stop → StageStep m given all s (answered s Done)
-  Idles : (course_of m s).ask ≡ Idle → StageStep m given all s (answered s Done)
-  Ends : (status : ℕ) → (course_of m s).ask ≡ End status → StageStep m given all s (record s { end = Some status })
+      → Begins ((course_of m s).read ++ byte ∷ bytes) given → StageStep m given complete s (answered s (Bytes (byte ∷ bytes)))
+  ReadsEnd : (count : ℕ) → (course_of m s).ask ≡ Read count → (course_of m s).read ≡ given → complete ≡ true → StageStep m given complete s (answered s (Bytes []))
+  Writes : (bytes rest : List ℕ) → (course_of m s).ask ≡ Write (s.gone ++ (bytes ++ rest)) → StageStep m given complete s (record s { gone = s.gone ++ bytes })
+  WritesAll : (rest : List ℕ) → (course_of m s).ask ≡ Write (s.gone ++ rest) → StageStep m given complete s (answered s Done)
+  Stops : (course_of m s).ask ≡ Stop → StageStep m given complete s (answered s Done)
+  Idles : (course_of m s).ask ≡ Idle → StageStep m given complete s (answered s Done)
+  Ends : (status : ℕ) → (course_of m s).ask ≡ End status → StageStep m given complete s (record s { end = Some status })
 
 -- a step of a pipeline is one of any of its stages. A stage is given what the stage before it has written, and no more is to come once that has
 -- ended
 pub data Step {S : Type 0} (m : Meaning S) : List ℕ → Bool → List (Stage S) → List (Stage S) → Type 0 where
-  Here : (given : List ℕ) (all : Bool) (s t : Stage S) (stages : List (Stage S)) → StageStep m given all s t → Step m given all (s ∷ stages) (t ∷ stages)
-  Behind : (given : List ℕ) (all : Bool) (s : Stage S) (stages later : List (Stage S)) → Step m (written_by m s) (has_ended s) stages later → Step m given all (s ∷ stages) (s ∷ later)
+  Here : (given : List ℕ) (complete : Bool) (s t : Stage S) (stages : List (Stage S)) → StageStep m given complete s t → Step m given complete (s ∷ stages) (t ∷ stages)
+  Behind : (given : List ℕ) (complete : Bool) (s : Stage S) (stages later : List (Stage S)) → Step m (written_by m s) (has_ended s) stages later → Step m given complete (s ∷ stages) (s ∷ later)
 
 -- any number of steps, in any order; the first stage reads the whole input
 pub data Steps {S : Type 0} (m : Meaning S) (input : List ℕ) : List (Stage S) → List (Stage S) → Type 0 where

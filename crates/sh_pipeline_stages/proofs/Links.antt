@@ -14,17 +14,17 @@ use Rattle.sh_pipeline_others.proofs.Beside.{Leaves, leads_at, or_back, or_front
 use Rattle.sh_pipeline_others.proofs.Files.{reads_there, writes_there}
 use Rattle.sh_pipeline_others.proofs.Leaving.{found_reaches}
 use Rattle.sh_pipeline_others.specs.Others.{AllGoOn, OnlyReach}
-use Rattle.sh_pipeline_runs.proofs.Changes.{Calm, Changed, PipeChange, Piped}
-use Rattle.sh_pipeline_runs.specs.Pipelines.{FedByFile, FedByPipe, FromFile, FromPipe, IsFed, Source, pair}
+use Rattle.sh_pipeline_stages.proofs.Changes.{Calm, Changed, PipeChange, Piped}
+use Rattle.sh_pipeline_stages.specs.Pipelines.{FedByFile, FedByPipe, FromFile, FromPipe, IsFed, Source, is_at_end}
 use Rattle.sh_pipeline_turns.specs.Joined.{Opened, WritesFile, WritesPipe, with_pipe}
 
 -- ---- the processes of a link
-pub pair_last : (before : Option ℕ) (pid : ℕ) → pair before pid pid ≡ true
-pair_last None pid = eq-eqb pid pid refl
-pair_last (Some b) pid = or_back (pid == b) (pid == pid) (eq-eqb pid pid refl)
+pub reader_is_at_end : (before : Option ℕ) (pid : ℕ) → is_at_end before pid pid ≡ true
+reader_is_at_end None pid = eq-eqb pid pid refl
+reader_is_at_end (Some b) pid = or_back (pid == b) (pid == pid) (eq-eqb pid pid refl)
 
-pub pair_first : (before pid : ℕ) → pair (Some before) pid before ≡ true
-pair_first before pid = or_front (before == before) (before == pid) (eq-eqb before before refl)
+pub writer_is_at_end : (before pid : ℕ) → is_at_end (Some before) pid before ≡ true
+writer_is_at_end before pid = or_front (before == before) (before == pid) (eq-eqb before before refl)
 
 -- a process that is neither
 pub not_same : (a b : ℕ) → a ≢ b → (a == b) ≡ false
@@ -34,18 +34,18 @@ abbrev pub IsOutside : Option ℕ → ℕ → ℕ → Type 0
 IsOutside None pid q = q ≢ pid
 IsOutside (Some before) pid q = (q ≢ before) × (q ≢ pid)
 
-pub pair_outside : (before : Option ℕ) (pid q : ℕ) → IsOutside before pid q → pair before pid q ≡ false
-pair_outside None pid q n = not_same q pid n
-pair_outside (Some before) pid q n = ap (λ (b : Bool). b || (q == pid)) (not_same q before n.0) ∙ not_same q pid n.1
+pub outside_ends : (before : Option ℕ) (pid q : ℕ) → IsOutside before pid q → is_at_end before pid q ≡ false
+outside_ends None pid q n = not_same q pid n
+outside_ends (Some before) pid q n = ap (λ (b : Bool). b || (q == pid)) (not_same q before n.0) ∙ not_same q pid n.1
 
 -- both go on
 abbrev pub GoOn : Option ℕ → ℕ → MachineState → Type 0
 GoOn None pid t = has_ended t.processes pid ≡ false
 GoOn (Some before) pid t = (has_ended t.processes before ≡ false) × (has_ended t.processes pid ≡ false)
 
-pub pair_goes_on : (before : Option ℕ) (pid : ℕ) (t : MachineState) → GoOn before pid t → AllGoOn (pair before pid) t
-pair_goes_on None pid t alive q h = ap (λ (n : ℕ). has_ended t.processes n) (eqb-true q pid h) ∙ alive
-pair_goes_on (Some before) pid t alive q h = of_test (q == before) refl h
+pub ends_go_on : (before : Option ℕ) (pid : ℕ) (t : MachineState) → GoOn before pid t → AllGoOn (is_at_end before pid) t
+ends_go_on None pid t alive q h = ap (λ (n : ℕ). has_ended t.processes n) (eqb-true q pid h) ∙ alive
+ends_go_on (Some before) pid t alive q h = of_test (q == before) refl h
   where
     of_test : (b : Bool) → (q == before) ≡ b → (b || (q == pid)) ≡ true → has_ended t.processes q ≡ false
     of_test true is h = ap (λ (n : ℕ). has_ended t.processes n) (eqb-true q before is) ∙ alive.0
@@ -101,19 +101,19 @@ fed_piped s before pipe given all pid read other new n f =
       alone = f.alone;
     }
 
-pub fed_calm : (s t : KernelState) (before : Option ℕ) (pipe : ℕ) (given : List ℕ) (all : Bool) (pid : ℕ) (read : List ℕ) → Leaves (pair before pid) s.machine t.machine → FedByPipe s.machine before pipe given all pid read
+pub fed_calm : (s t : KernelState) (before : Option ℕ) (pipe : ℕ) (given : List ℕ) (all : Bool) (pid : ℕ) (read : List ℕ) → Leaves (is_at_end before pid) s.machine t.machine → FedByPipe s.machine before pipe given all pid read
     → FedByPipe t.machine before pipe given all pid read
 fed_calm s t before pipe given all pid read l f =
-    let alone = subst (λ (n : ℕ). OnlyReach (pair before pid) s.machine n) (sym f.same_pipe) f.alone in
-    let r = still_reads (pair before pid) s.machine t.machine l pid given all read (pair_last before pid) f.reads alone in
-    record { reads = r.reads; same_pipe = r.same_pipe ∙ f.same_pipe; alone = subst (λ (n : ℕ). OnlyReach (pair before pid) t.machine n) f.same_pipe r.alone }
+    let alone = subst (λ (n : ℕ). OnlyReach (is_at_end before pid) s.machine n) (sym f.same_pipe) f.alone in
+    let r = still_reads (is_at_end before pid) s.machine t.machine l pid given all read (reader_is_at_end before pid) f.reads alone in
+    record { reads = r.reads; same_pipe = r.same_pipe ∙ f.same_pipe; alone = subst (λ (n : ℕ). OnlyReach (is_at_end before pid) t.machine n) f.same_pipe r.alone }
 
 pub fed_by_pipe_stays : (actor : ℕ) (s t : KernelState) (before : Option ℕ) (pipe : ℕ) (given : List ℕ) (all : Bool) (pid : ℕ) (read : List ℕ) → PipeChange actor s t → GoOn before pid t.machine
     → ((other : ℕ) → reaches s.machine.descriptors actor (is_end s.machine.descriptions other) ≡ true → other ≢ pipe) → FedByPipe s.machine before pipe given all pid read → FedByPipe t.machine before pipe given all pid read
 fed_by_pipe_stays actor s t before pipe given all pid read (Piped other old new slot has same) alive elsewhere f =
     subst (λ (u : KernelState). FedByPipe u.machine before pipe given all pid read) (sym same) (fed_piped s before pipe given all pid read other new (elsewhere other has) f)
 fed_by_pipe_stays actor s t before pipe given all pid read (Calm leaves) alive elsewhere f =
-    fed_calm s t before pipe given all pid read (leaves (pair before pid) (pair_goes_on before pid t.machine alive)) f
+    fed_calm s t before pipe given all pid read (leaves (is_at_end before pid) (ends_go_on before pid t.machine alive)) f
 
 -- a file that wasn't touched
 pub fed_by_file_stays : (actor : ℕ) (touched : Option ℕ) (s t : KernelState) (number : ℕ) (given : List ℕ) (all : Bool) (pid : ℕ) (read : List ℕ) → Changed actor touched s t → has_ended t.machine.processes pid ≡ false → touched ≢ Some number
@@ -136,6 +136,6 @@ FromOther touched (FromFile number) = touched ≢ Some number
 pub fed_stays : (actor : ℕ) (touched : Option ℕ) (s t : KernelState) (before : Option ℕ) (source : Source) (given : List ℕ) (all : Bool) (pid : ℕ) (read : List ℕ) → Changed actor touched s t → GoOn before pid t.machine → IsOutside before pid actor
     → FromOther touched source → IsFed s.machine before source given all pid read → IsFed t.machine before source given all pid read
 fed_stays actor touched s t before (FromPipe pipe) given all pid read c alive outside other f =
-    fed_by_pipe_stays actor s t before pipe given all pid read c.pipes alive (λ q has. reached_elsewhere s.machine (pair before pid) q pipe actor f.alone (pair_outside before pid actor outside) has) f
+    fed_by_pipe_stays actor s t before pipe given all pid read c.pipes alive (λ q has. reached_elsewhere s.machine (is_at_end before pid) q pipe actor f.alone (outside_ends before pid actor outside) has) f
 fed_stays actor touched s t None (FromFile number) given all pid read c alive outside other f = fed_by_file_stays actor touched s t number given all pid read c alive other f
 fed_stays actor touched s t (Some before) (FromFile number) given all pid read c alive outside other f = fed_by_file_stays actor touched s t number given all pid read c alive.1 other f

@@ -1,6 +1,6 @@
-use Rattle.sh_pipeline_runs.proofs.Beside.{stands_after_key}
-use Rattle.sh_pipeline_runs.proofs.Laws.{beside}
-use Rattle.sh_pipeline_runs.proofs.pipelines.others_keep_pipelines.Goals as goal
+use Rattle.sh_pipeline_stages.proofs.Beside.{stands_after_key}
+use Rattle.sh_pipeline_stages.proofs.Laws.{beside}
+use Rattle.sh_pipeline_stages.proofs.pipelines.others_keep_pipelines.Goals as goal
 
 pub returns-clause-requests : goal.returns-clause-requests
 returns-clause-requests g c = beside g.S.Stock.meaning

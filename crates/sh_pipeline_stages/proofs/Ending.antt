@@ -22,11 +22,11 @@ use Rattle.sh_pipeline_others.proofs.Beside.{Leaves, endings_leave}
 use Rattle.sh_pipeline_others.proofs.Files.{LeavesFile, endings_leave_file}
 use Rattle.sh_pipeline_others.proofs.Leaving.{ends_leave}
 use Rattle.sh_pipeline_others.specs.Others.{AllGoOn, OnlyReach}
-use Rattle.sh_pipeline_runs.proofs.Acting.{runs_of}
-use Rattle.sh_pipeline_runs.proofs.Changes.{Calm, Changed, leaves_same}
-use Rattle.sh_pipeline_runs.proofs.Here.{none_last}
-use Rattle.sh_pipeline_runs.proofs.Standing.{fed_of, tail_stays}
-use Rattle.sh_pipeline_runs.specs.Pipelines.{AreAlive, AreDistinct, Ends, FedByPipe, FromPipe, Holds, Joint, NotAmong, Source, Stands, behind, pair}
+use Rattle.sh_pipeline_stages.proofs.Acting.{runs_of}
+use Rattle.sh_pipeline_stages.proofs.Changes.{Calm, Changed, leaves_same}
+use Rattle.sh_pipeline_stages.proofs.Here.{none_last}
+use Rattle.sh_pipeline_stages.proofs.Standing.{fed_of, tail_stays}
+use Rattle.sh_pipeline_stages.specs.Pipelines.{AreAlive, AreDistinct, Ends, FedByPipe, FromPipe, Holds, StageProcess, NotAmong, Source, Stands, behind, is_at_end}
 use Rattle.sh_pipeline_turns.proofs.Turning.{ends}
 use Rattle.sh_pipelines.specs.Pipelines.{course_of, has_ended, written_by}
 use Rattle.sh_stock.specs.Asking.{Meaning}
@@ -104,7 +104,7 @@ changed_end s pid status = record { pipes = Calm (end_leaves s pid status); file
 
 module _ {S : Type 0} (m : Meaning S) where
   -- ---- the stages behind the one that ends
-  next_alone : (s : KernelState) (pid status next pipe : ℕ) → lives s.machine.processes pid ≡ true → Ends s (end_call s pid status).after pid → OnlyReach (pair (Some pid) next) (end_call s pid status).after.machine pipe → OnlyReach (pair None next) (end_call s pid status).after.machine pipe
+  next_alone : (s : KernelState) (pid status next pipe : ℕ) → lives s.machine.processes pid ≡ true → Ends s (end_call s pid status).after pid → OnlyReach (is_at_end (Some pid) next) (end_call s pid status).after.machine pipe → OnlyReach (is_at_end None next) (end_call s pid status).after.machine pipe
   next_alone s pid status next pipe alive e alone q h = of_test (q == pid) refl
     where
       of_test : (b : Bool) → (q == pid) ≡ b → reaches (end_call s pid status).after.machine.descriptors q (is_end (end_call s pid status).after.machine.descriptions pipe) ≡ false
@@ -112,31 +112,31 @@ module _ {S : Type 0} (m : Meaning S) where
           ∙ end_closes s pid status (is_end (end_call s pid status).after.machine.descriptions pipe) alive e
       of_test false is = alone q (ap (λ (b : Bool). b || (q == next)) is ∙ h)
 
-  ends_here : (s : KernelState) (before : Option ℕ) (source : Source) (given : List ℕ) (all : Bool) (j : Joint S) (js : List (Joint S)) (status : ℕ) → lives s.machine.processes j.pid ≡ true → Ends s (end_call s j.pid status).after j.pid
+  ends_here : (s : KernelState) (before : Option ℕ) (source : Source) (given : List ℕ) (all : Bool) (j : StageProcess S) (js : List (StageProcess S)) (status : ℕ) → lives s.machine.processes j.pid ≡ true → Ends s (end_call s j.pid status).after j.pid
       → AreAlive (end_call s j.pid status).after.machine js → NotAmong j.pid js → Stands m s.machine before source given all (j ∷ js) → Stands m (end_call s j.pid status).after.machine None (FromPipe j.to) (written_by m j.stage) true js
   ends_here s before source given all j [] status living e alive among st = tt
   ends_here s before source given all j (k ∷ js) status living e alive among st =
       let u = (end_call s j.pid status).after in
       let f = fed_of m s.machine (Some j.pid) (FromPipe j.to) (written_by m j.stage) (has_ended j.stage) k js st.3 in
-      let alone = subst (λ (x : ℕ). OnlyReach (pair (Some j.pid) k.pid) s.machine x) (sym f.same_pipe) f.alone in
-      let r = ends_leave s j.pid status (pair (Some j.pid) k.pid) k.pid (written_by m j.stage) (has_ended j.stage) (course_of m k.stage).read f.reads alone alive.0 in
+      let alone = subst (λ (x : ℕ). OnlyReach (is_at_end (Some j.pid) k.pid) s.machine x) (sym f.same_pipe) f.alone in
+      let r = ends_leave s j.pid status (is_at_end (Some j.pid) k.pid) k.pid (written_by m j.stage) (has_ended j.stage) (course_of m k.stage).read f.reads alone alive.0 in
       let fed : FedByPipe u.machine None j.to (written_by m j.stage) true k.pid (course_of m k.stage).read =
       record {
         reads = r.reads;
         same_pipe = r.same_pipe ∙ f.same_pipe;
-        alone = next_alone s j.pid status k.pid j.to living e (subst (λ (x : ℕ). OnlyReach (pair (Some j.pid) k.pid) u.machine x) f.same_pipe r.alone);
+        alone = next_alone s j.pid status k.pid j.to living e (subst (λ (x : ℕ). OnlyReach (is_at_end (Some j.pid) k.pid) u.machine x) f.same_pipe r.alone);
       } in
       tail_stays m j.pid None s u (changed_end s j.pid status) (Some j.pid) None (FromPipe j.to) (FromPipe j.to) (written_by m j.stage) (written_by m j.stage) (has_ended j.stage) true js k alive among (none_last (k ∷ js)) st.3 fed
 
-  pub ends_at : (s : KernelState) (before : Option ℕ) (source : Source) (given : List ℕ) (all : Bool) (js : List (Joint S)) (n : ℕ) (j : Joint S) (status : ℕ) → slice_get js n ≡ Some j → let t = turn m s j.task in
+  pub ends_at : (s : KernelState) (before : Option ℕ) (source : Source) (given : List ℕ) (all : Bool) (js : List (StageProcess S)) (n : ℕ) (j : StageProcess S) (status : ℕ) → slice_get js n ≡ Some j → let t = turn m s j.task in
       (course_of m j.stage).ask ≡ End status → lives s.machine.processes j.pid ≡ true → Ends s t.machine j.pid → AreAlive t.machine.machine (behind n js) → AreDistinct js → Stands m s.machine before source given all js
       → Stands m t.machine.machine None (FromPipe j.to) (written_by m j.stage) true (behind n js)
   ends_at s before source given all [] n j status at asks living e alive distinct st = cc
   ends_at s before source given all (i ∷ js) zero j status at asks living e alive distinct st =
       let same : i ≡ j = cc in
-      let own = subst (λ (x : Joint S). Stands m s.machine before source given all (x ∷ js)) same st in
+      let own = subst (λ (x : StageProcess S). Stands m s.machine before source given all (x ∷ js)) same st in
       let x = ends m s j.pid j.stage j.task given all status (runs_of m s.machine before source given all j js own) asks in
-      let among = subst (λ (y : Joint S). NotAmong y.pid js) same distinct.0 in
+      let among = subst (λ (y : StageProcess S). NotAmong y.pid js) same distinct.0 in
       subst (λ (u : KernelState). Stands m u.machine None (FromPipe j.to) (written_by m j.stage) true js) (sym x.1)
       (ends_here s before source given all j js status living (subst (λ (u : KernelState). Ends s u j.pid) x.1 e) (subst (λ (u : KernelState). AreAlive u.machine js) x.1 alive) among own)
   ends_at s before source given all (i ∷ []) (suc n) j status at asks living e alive distinct st = cc
@@ -144,12 +144,12 @@ module _ {S : Type 0} (m : Meaning S) where
       ends_at s (Some i.pid) (FromPipe i.to) (written_by m i.stage) (has_ended i.stage) (k ∷ js) n j status at asks living e alive distinct.1 st.3
 
   -- ---- the last stage
-  pub last_holds : (s : KernelState) (before : Option ℕ) (source : Source) (given : List ℕ) (all : Bool) (js : List (Joint S)) (n : ℕ) (j : Joint S) (status : ℕ) → slice_get js n ≡ Some j → behind n js ≡ [] → let t = turn m s j.task in
+  pub last_holds : (s : KernelState) (before : Option ℕ) (source : Source) (given : List ℕ) (all : Bool) (js : List (StageProcess S)) (n : ℕ) (j : StageProcess S) (status : ℕ) → slice_get js n ≡ Some j → behind n js ≡ [] → let t = turn m s j.task in
       (course_of m j.stage).ask ≡ End status → Stands m s.machine before source given all js → Holds t.machine.machine j.to (written_by m j.stage)
   last_holds s before source given all [] n j status at last asks st = cc
   last_holds s before source given all (i ∷ []) zero j status at last asks st =
       let same : i ≡ j = cc in
-      let own = subst (λ (x : Joint S). Stands m s.machine before source given all (x ∷ [])) same st in
+      let own = subst (λ (x : StageProcess S). Stands m s.machine before source given all (x ∷ [])) same st in
       let x = ends m s j.pid j.stage j.task given all status own.0 asks in
       record {
         file = own.2.file;

@@ -1,10 +1,12 @@
 -- The turn of the process of the first of some stages, by what it asks.
 use Rattle.std.proofs.Common.{◌≡◌, ◌≢◌, ℕ, ◌+◌, List, [], ◌∷◌, ◌++◌, length, Bool, true, false, Option, Some, None, slice_get, slice_set, refl, sym, ap, ◌∙◌, subst, append_assoc, append-nil, length-append, inl, inr}
 use Rattle.sh_exec.specs.Turns.{Turned}
+use Rattle.sh_exec.specs.Actions.{action_of}
 use Rattle.sh_exec.specs.declared.task.Task.{Task}
 use Rattle.sh_files_image.specs.declared.node.Node.TheVariants as node
 use Rattle.sh_kernel.specs.Reaching.{is_end, reaches}
 use Rattle.sh_kernel.specs.State.{KernelState}
+use Rattle.sh_kernel.specs.Turns.{can_do}
 use Rattle.sh_kernel_descriptors.specs.Descriptors.{has_writer}
 use Rattle.sh_kernel_descriptors.specs.declared.description.Target.TheVariants.{ReadEnd, WriteEnd}
 use Rattle.sh_kernel_machine.proofs.Lists.{same_place}
@@ -12,60 +14,60 @@ use Rattle.sh_kernel_processes.specs.Processes as processes
 use Rattle.sh_pipe.specs.Pipe.{PipeState}
 use Rattle.sh_pipeline_others.proofs.Leaving.{reader_has}
 use Rattle.sh_pipeline_others.specs.Others.{OnlyReach}
-use Rattle.sh_pipeline_runs.proofs.Acting.{IsApart, IsApartFor, SinkAt, TurnedHere, build, fed_kept, sink_kept, sink_of, writer_there}
-use Rattle.sh_pipeline_runs.proofs.Changes.{Changed, Piped, changed_content, changed_nothing, changed_offset, changed_pipe}
-use Rattle.sh_pipeline_runs.proofs.Links.{IsOutside, fed_by_file_stays, fed_piped, opened_piped, pair_goes_on, pair_outside, reached_elsewhere, writer_has}
-use Rattle.sh_pipeline_runs.proofs.Standing.{go_on}
-use Rattle.sh_pipeline_runs.specs.Pipelines.{AreAlive, AreDistinct, FedByFile, FedByPipe, FromFile, FromPipe, IsAlive, IsFed, IsNotLast, Joint, NotAmong, NotBefore, ReadsOther, Source, Stands, pair}
+use Rattle.sh_pipeline_stages.proofs.Acting.{IsApart, IsApartFor, SinkAt, TurnedHere, build, fed_kept, sink_kept, sink_of, writer_there}
+use Rattle.sh_pipeline_stages.proofs.Changes.{Changed, Piped, changed_content, changed_nothing, changed_offset, changed_pipe}
+use Rattle.sh_pipeline_stages.proofs.Links.{IsOutside, fed_by_file_stays, fed_piped, opened_piped, ends_go_on, outside_ends, reached_elsewhere, writer_has}
+use Rattle.sh_pipeline_stages.proofs.Standing.{go_on}
+use Rattle.sh_pipeline_stages.specs.Pipelines.{AreAlive, AreDistinct, FedByFile, FedByPipe, FromFile, FromPipe, IsAlive, IsFed, IsNotLast, StageProcess, NotAmong, NotBefore, ReadsOther, Source, Stands, is_at_end}
 use Rattle.sh_pipeline_turns.specs.Joined.{WritesFile, WritesPipe, with_content, with_offset, with_pipe}
 use Rattle.sh_pipeline_turns.specs.Turns.{ReadFromFile, ReadFromPipe, Stepped, Took, WaitsForBytes, WaitsForRoom, Went, WrittenToFile, WrittenToPipe}
 use Rattle.sh_pipelines.specs.Pipelines.{course_of, has_ended, written_by}
 use Rattle.sh_stock.specs.Asking.{Meaning}
 
-pub none_last : {S : Type 0} (js : List (Joint S)) → IsNotLast None js
+pub none_last : {S : Type 0} (js : List (StageProcess S)) → IsNotLast None js
 none_last [] = tt
 none_last (j ∷ []) = λ h. cc
 none_last (j ∷ k ∷ js) = none_last (k ∷ js)
 
-pub behind_last : {S : Type 0} (number : Option ℕ) (j : Joint S) (js : List (Joint S)) → IsNotLast number (j ∷ js) → IsNotLast number js
+pub behind_last : {S : Type 0} (number : Option ℕ) (j : StageProcess S) (js : List (StageProcess S)) → IsNotLast number (j ∷ js) → IsNotLast number js
 behind_last number j [] h = tt
 behind_last number j (k ∷ js) h = h
 
 -- a pipe that the next stage reads isn't the one that this stage reads
-next_outside : {S : Type 0} (before : Option ℕ) (j k : Joint S) (js : List (Joint S)) → NotBefore before (j ∷ k ∷ js) → j.pid ≢ k.pid → IsOutside before j.pid k.pid
+next_outside : {S : Type 0} (before : Option ℕ) (j k : StageProcess S) (js : List (StageProcess S)) → NotBefore before (j ∷ k ∷ js) → j.pid ≢ k.pid → IsOutside before j.pid k.pid
 next_outside None j k js n other = λ h. other (sym h)
 next_outside (Some before) j k js n other = (λ h. n.1.0 (sym h), λ h. other (sym h))
 
-apart_piped : {S : Type 0} (js : List (Joint S)) (pipe to actor : ℕ) (s t : KernelState) (old new : PipeState) (slot : slice_get s.machine.pipes pipe ≡ Some (Some old)) (has : reaches s.machine.descriptors actor (is_end s.machine.descriptions pipe) ≡ true) (same : t ≡ with_pipe s pipe new)
-    → ((k : Joint S) (rest : List (Joint S)) → js ≡ k ∷ rest → pipe ≢ to) → IsApartFor {actor = actor} {s = s} {t = t} js (Piped pipe old new slot has same) to
+apart_piped : {S : Type 0} (js : List (StageProcess S)) (pipe to actor : ℕ) (s t : KernelState) (old new : PipeState) (slot : slice_get s.machine.pipes pipe ≡ Some (Some old)) (has : reaches s.machine.descriptors actor (is_end s.machine.descriptions pipe) ≡ true) (same : t ≡ with_pipe s pipe new)
+    → ((k : StageProcess S) (rest : List (StageProcess S)) → js ≡ k ∷ rest → pipe ≢ to) → IsApartFor {actor = actor} {s = s} {t = t} js (Piped pipe old new slot has same) to
 apart_piped [] pipe to actor s t old new slot has same n = tt
 apart_piped (k ∷ js) pipe to actor s t old new slot has same n = n k js refl
 
-module _ {S : Type 0} (m : Meaning S) (s : KernelState) (before : Option ℕ) (source : Source) (given : List ℕ) (all : Bool) (j : Joint S) where
+module _ {S : Type 0} (m : Meaning S) (s : KernelState) (before : Option ℕ) (source : Source) (given : List ℕ) (all : Bool) (j : StageProcess S) where
   -- the source is another pipe than the one that is written to
-  source_apart : (pipe : ℕ) (js : List (Joint S)) → AreDistinct (j ∷ js) → NotBefore before (j ∷ js) → OnlyReach (pair before j.pid) s.machine pipe → SinkAt m s.machine j (written_by m j.stage) (has_ended j.stage) js
-      → (k : Joint S) (rest : List (Joint S)) → js ≡ k ∷ rest → j.to ≢ pipe
+  source_apart : (pipe : ℕ) (js : List (StageProcess S)) → AreDistinct (j ∷ js) → NotBefore before (j ∷ js) → OnlyReach (is_at_end before j.pid) s.machine pipe → SinkAt m s.machine j (written_by m j.stage) (has_ended j.stage) js
+      → (k : StageProcess S) (rest : List (StageProcess S)) → js ≡ k ∷ rest → j.to ≢ pipe
   source_apart pipe [] distinct n alone sink k rest h = cc
   source_apart pipe (l ∷ js) distinct n alone sink k rest h =
       let fed = sink.1 in
-      reached_elsewhere s.machine (pair before j.pid) j.to pipe l.pid alone (pair_outside before j.pid l.pid (next_outside before j l js n distinct.0.0))
+      reached_elsewhere s.machine (is_at_end before j.pid) j.to pipe l.pid alone (outside_ends before j.pid l.pid (next_outside before j l js n distinct.0.0))
       (subst (λ (x : ℕ). reaches s.machine.descriptors l.pid (is_end s.machine.descriptions x) ≡ true) fed.same_pipe (reader_has s.machine l.pid (written_by m j.stage) (has_ended j.stage) (course_of m l.stage).read fed.reads))
 
   -- nothing changed, and the process asks as before
-  pub waits : (js : List (Joint S)) (t : Turned S) → t.machine ≡ s → t.task ≡ j.task → Stands m s.machine before source given all (j ∷ js) → TurnedHere m s before source given all j js t.machine t.task
-  waits js t same task st =
+  pub waits : (js : List (StageProcess S)) (t : Turned S) → can_do s j.pid (action_of s j.task) ≡ false → t.machine ≡ s → t.task ≡ j.task → Stands m s.machine before source given all (j ∷ js) → TurnedHere m s before source given all j js t.machine t.task
+  waits js t cannot same task st =
       record {
         later = j.stage;
         stands = subst (λ (u : KernelState). Stands m u.machine before source given all (record j { stage = j.stage; task = t.task } ∷ js)) (sym same)
             (subst (λ (x : Task S). Stands m s.machine before source given all (record j { stage = j.stage; task = x } ∷ js)) (sym task) st);
-        goes = inl refl;
+        goes = inl (cannot, refl);
         touched = None;
         changed = subst (λ (u : KernelState). Changed j.pid None s u) (sym same) (changed_nothing j.pid s);
         elsewhere = λ number other last h. cc;
       }
 
   -- a step by which nothing changed that others see
-  pub quiet : (js : List (Joint S)) (u : KernelState) (next : Task S) (c : Changed j.pid None s u) → ((pipe : ℕ) → IsApart c.pipes pipe) → Stepped m j.pid given all j.stage [] [] next → IsAlive u.machine before → AreAlive u.machine (j ∷ js) → NotAmong j.pid js
+  pub quiet : (js : List (StageProcess S)) (u : KernelState) (next : Task S) (c : Changed j.pid None s u) → ((pipe : ℕ) → IsApart c.pipes pipe) → Stepped m j.pid given all j.stage [] [] next → IsAlive u.machine before → AreAlive u.machine (j ∷ js) → NotAmong j.pid js
       → Stands m s.machine before source given all (j ∷ js) → IsFed u.machine before source given all j.pid (course_of m j.stage).read → TurnedHere m s before source given all j js u next
   quiet js u next c apart x alive_before alive among st fed =
       let read = (course_of m j.stage).read in
@@ -82,15 +84,15 @@ module _ {S : Type 0} (m : Meaning S) (s : KernelState) (before : Option ℕ) (s
         elsewhere = λ number other last h. cc;
       }
     where
-      apart_for : (ks : List (Joint S)) → IsApartFor ks c.pipes j.to
+      apart_for : (ks : List (StageProcess S)) → IsApartFor ks c.pipes j.to
       apart_for [] = tt
       apart_for (k ∷ ks) = apart j.to
 
 -- ---- reads
-module _ {S : Type 0} (m : Meaning S) (s : KernelState) (before : Option ℕ) (given : List ℕ) (all : Bool) (j : Joint S) (js : List (Joint S)) where
+module _ {S : Type 0} (m : Meaning S) (s : KernelState) (before : Option ℕ) (given : List ℕ) (all : Bool) (j : StageProcess S) (js : List (StageProcess S)) where
   pub reading_pipe : (pipe : ℕ) (f : FedByPipe s.machine before pipe given all j.pid (course_of m j.stage).read) (t : Turned S) → ReadFromPipe m s j.pid given all j.stage j.task f.reads t → AreAlive t.machine.machine (j ∷ js) → AreDistinct (j ∷ js) → NotBefore before (j ∷ js)
       → Stands m s.machine before (FromPipe pipe) given all (j ∷ js) → TurnedHere m s before (FromPipe pipe) given all j js t.machine t.task
-  reading_pipe pipe f t (WaitsForBytes same task) alive distinct n st = waits m s before (FromPipe pipe) given all j js t same task st
+  reading_pipe pipe f t (WaitsForBytes cannot empty written_to same task) alive distinct n st = waits m s before (FromPipe pipe) given all j js t cannot same task st
   reading_pipe pipe f t (Took taken rest split same x) alive distinct n st =
       let r = f.reads in
       let new : PipeState = record r.state { bytes = rest } in
@@ -177,7 +179,7 @@ module _ {S : Type 0} (m : Meaning S) (s : KernelState) (before : Option ℕ) (g
       } in
       subst (λ (v : KernelState). TurnedHere m s before (FromFile number) given all j js v t.task) (sym y.machine) here
     where
-      apart_calm : (ks : List (Joint S)) → IsApartFor ks (changed_offset j.pid s f.reads.opened.place f.reads.number (f.reads.opened.description.offset + length y.taken) f.reads.opened.description f.reads.opened.described f.reads.opened.leads).pipes j.to
+      apart_calm : (ks : List (StageProcess S)) → IsApartFor ks (changed_offset j.pid s f.reads.opened.place f.reads.number (f.reads.opened.description.offset + length y.taken) f.reads.opened.description f.reads.opened.described f.reads.opened.leads).pipes j.to
       apart_calm [] = tt
       apart_calm (k ∷ ks) = tt
 
@@ -222,10 +224,10 @@ module _ {S : Type 0} (m : Meaning S) (s : KernelState) (before : Option ℕ) (g
       subst (λ (v : KernelState). TurnedHere m s before source given all j [] v t.task) (sym y.machine) here
     where
       own_fed : (o : Source) (u : KernelState) (c : Changed j.pid (Some j.to) s u) → ((pipe : ℕ) → IsApart c.pipes pipe) → IsAlive u.machine before → processes.has_ended u.machine.processes j.pid ≡ false → ReadsOther o (j ∷ []) → IsFed s.machine before o given all j.pid (course_of m j.stage).read → IsFed u.machine before o given all j.pid (course_of m j.stage).read
-      own_fed (FromPipe pipe) u c apart b a o f = fed_kept j.pid s u before pipe given all j.pid (course_of m j.stage).read c.pipes (apart pipe) (pair_goes_on before j.pid u.machine (go_on before j.pid u.machine b a)) f
+      own_fed (FromPipe pipe) u c apart b a o f = fed_kept j.pid s u before pipe given all j.pid (course_of m j.stage).read c.pipes (apart pipe) (ends_go_on before j.pid u.machine (go_on before j.pid u.machine b a)) f
       own_fed (FromFile number) u c apart b a o f = fed_by_file_stays j.pid (Some j.to) s u number given all j.pid (course_of m j.stage).read c a (λ h. o (sym h)) f
 
-module _ {S : Type 0} (m : Meaning S) (s : KernelState) (before : Option ℕ) (given : List ℕ) (all : Bool) (j k : Joint S) (js : List (Joint S)) where
+module _ {S : Type 0} (m : Meaning S) (s : KernelState) (before : Option ℕ) (given : List ℕ) (all : Bool) (j k : StageProcess S) (js : List (StageProcess S)) where
   -- a stage whose output goes to a pipe
   source_stays : (source : Source) (state new : PipeState) (w : WritesPipe s.machine j.pid j.to state) → AreDistinct (j ∷ k ∷ js) → NotBefore before (j ∷ k ∷ js) → processes.has_ended s.machine.processes j.pid ≡ false → Stands m s.machine before source given all (j ∷ k ∷ js)
       → IsFed (with_pipe s j.to new).machine before source given all j.pid (course_of m j.stage).read
@@ -237,7 +239,7 @@ module _ {S : Type 0} (m : Meaning S) (s : KernelState) (before : Option ℕ) (g
 
   pub writing_pipe : (source : Source) (state : PipeState) (w : WritesPipe s.machine j.pid j.to state) (t : Turned S) → WrittenToPipe m s j.pid given all j.stage j.task j.to state t → AreAlive t.machine.machine (j ∷ k ∷ js) → AreDistinct (j ∷ k ∷ js) → NotBefore before (j ∷ k ∷ js)
       → Stands m s.machine before source given all (j ∷ k ∷ js) → TurnedHere m s before source given all j (k ∷ js) t.machine t.task
-  writing_pipe source state w t (WaitsForRoom same task) alive distinct n st = waits m s before source given all j (k ∷ js) t same task st
+  writing_pipe source state w t (WaitsForRoom cannot rest is full same task) alive distinct n st = waits m s before source given all j (k ∷ js) t cannot same task st
   writing_pipe source state w t (Went bytes same x) alive distinct n st =
       let new : PipeState = record state { bytes = state.bytes ++ bytes } in
       let u = with_pipe s j.to new in

@@ -1,6 +1,6 @@
-use Rattle.sh_pipeline_runs.proofs.Ending.{ends_at, last_holds}
-use Rattle.sh_pipeline_runs.proofs.Laws.{ends_step}
-use Rattle.sh_pipeline_runs.proofs.pipelines.ends_keep_pipelines.Goals as goal
+use Rattle.sh_pipeline_stages.proofs.Ending.{ends_at, last_holds}
+use Rattle.sh_pipeline_stages.proofs.Laws.{ends_step}
+use Rattle.sh_pipeline_stages.proofs.pipelines.ends_keep_pipelines.Goals as goal
 
 pub returns-clause-stands : goal.returns-clause-stands
 returns-clause-stands g c = ends_at g.S.Stock.meaning
