@@ -14,8 +14,8 @@ use crate::command_line::asked;
 use crate::serving::serve;
 use crate::usage::Asked;
 use psh_common::{read, tell, words, write};
+use sh_exec::Settings;
 use sh_stock::Program;
-use sh_world::Settings;
 use std::io::Write;
 use std::process::ExitCode;
 

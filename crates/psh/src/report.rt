@@ -36,9 +36,8 @@ fn put_jobs<S: Stock>(text: &mut Vec<u8>, world: &World<S>) -> Result<(), NoMemo
     ensures { (s : State S) → WorldStands world.now s → OnOk result
         (text.new.items ≡ text.old.items ++ job_lines_of s) }
 {
-    if let Some(lines) = world.job_lines()? {
-        text.extend_from_slice(lines.as_slice())?;
-    }
+    let lines = world.job_lines()?;
+    text.extend_from_slice(lines.as_slice())?;
     Ok(())
 }
 

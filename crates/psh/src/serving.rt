@@ -13,9 +13,11 @@ use crate::report::put_report;
 use itoa::Buffer;
 use psh_common::{EventFault, Turns, read_events};
 use sh_base::NoMemory;
-use sh_files::{FaultKind, Files, ImageFault};
+use sh_exec::Settings;
+use sh_files::Files;
+use sh_files_image::{FaultKind, ImageFault};
 use sh_stock::Stock;
-use sh_world::{Settings, World};
+use sh_world::World;
 use std::alloc::Global;
 
 /// Tells what is wrong with an input, and in which line. After an `Err` nothing is told.

@@ -1,5 +1,5 @@
 //! What a command line may ask for.
-use sh_world::Settings;
+use sh_exec::Settings;
 
 /// A command line that is in order.
 #[derive(Drop)]

@@ -13,7 +13,7 @@ pub fn lack(rt: &HostRuntime, program: &str) -> u8 {
 /// written.
 pub fn write(rt: &HostRuntime, program: &str, bytes: &[u8], status: u8) -> u8 {
     if rt.stdout().write_all(bytes).is_err() {
-        let _ = eprintln!(rt; "{program}: cannot write");
+        let _ = eprintln!(rt; "{program}: cannot write: standard output");
         return 4;
     }
     status
@@ -26,7 +26,7 @@ pub fn read(rt: &HostRuntime, program: &str, name: &str) -> Result<Vec<u8>, u8> 
         Ok(bytes) => Ok(bytes),
         Err(error) if error.kind() == io::ErrorKind::OutOfMemory => Err(lack(rt, program)),
         Err(_) => {
-            let _ = eprintln!(rt; "{program}: {name}: cannot read");
+            let _ = eprintln!(rt; "{program}: cannot read: {name}");
             Err(4)
         },
     }

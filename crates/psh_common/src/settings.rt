@@ -2,9 +2,9 @@
 use crate::fault::{UsageFault, usage};
 use crate::text::bytes_of;
 use clap::ArgMatches;
-use sh_base::sequence::Sequence;
+use sh_base::sequence::{Sequence, Text};
 use sh_exec::{Settings, Source};
-use sh_vars::{Options, ShellOption, Text};
+use sh_vars::{Options, ShellOption};
 use std::alloc::{AllocError, Global};
 
 /// Where the commands come from: a text, or the script that the first word names, or the terminal.

@@ -37,7 +37,7 @@ fn keep_one(rt: &HostRuntime, folder: &str, number: u64, found: &Found) -> Resul
         return Err(lack(rt, PROGRAM));
     };
     if fs::write(rt, path.as_str(), text.as_slice()).is_err() {
-        let _ = eprintln!(rt; "{PROGRAM}: {path}: cannot write");
+        let _ = eprintln!(rt; "{PROGRAM}: cannot write: {path}");
         return Err(4);
     }
     Ok(())

@@ -1,9 +1,9 @@
 //! What happens in a run, turn by turn.
 use sh_base::NoMemory;
 use sh_base::sequence::{Sequence, Text, copies_of};
-use sh_kernel_processes::FIRST_PID;
+use sh_kernel_processes::{FIRST_PID, Status};
 use sh_stock::Stock;
-use sh_world::{Event, Status, TurnAction, World};
+use sh_world::{Event, TurnAction, World};
 use std::alloc::Global;
 
 /// A turn of a process.

@@ -4,5 +4,3 @@ pub mod Invocations
 pub mod Loops
 pub mod Running
 pub use Rattle.sh_builtin_asking.specs.BuiltIns
-pub use Rattle.sh_builtin_asking.specs.Resuming
-pub use Rattle.sh_builtin_asking.specs.declared.answer.Answer

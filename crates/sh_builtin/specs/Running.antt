@@ -39,8 +39,8 @@ use Rattle.sh_kernel.specs.State.{KernelState}
 use Rattle.sh_kernel_descriptors.specs.Machine.{MachineState}
 use Rattle.sh_kernel_descriptors.specs.Terminals.{is_terminal}
 use Rattle.sh_kernel_descriptors.specs.declared.descriptor.DescriptorRef.TheVariants.{Number}
-use Rattle.sh_kernel_signals.specs.Sets.{no_signals, with_signal}
-use Rattle.sh_kernel_signals.specs.declared.set.SignalSet.{SignalSet}
+use Rattle.sh_kernel_processes.specs.Sets.{no_signals, with_signal}
+use Rattle.sh_kernel_processes.specs.declared.set.SignalSet.{SignalSet}
 use Rattle.sh_signal.specs.declared.signal.Signal.TheVariants.{TerminalStop, TerminalInput, TerminalOutput}
 use Rattle.sh_vars.specs.Environment.{Environment, value_of}
 

@@ -20,7 +20,7 @@ use sh_builtin_environment::{
 use sh_builtin_outcome::{Builtin, Outcome, TextOrigin};
 use sh_builtin_shell::Shell;
 use sh_kernel::Kernel;
-use sh_kernel_signals::SignalSet;
+use sh_kernel_processes::SignalSet;
 use sh_signal::Signal;
 use std::alloc::Global;
 

@@ -13,13 +13,13 @@ use Rattle.sh_builtin_jobs.specs.declared.continuing.ForegroundJob.{ForegroundJo
 use Rattle.sh_builtin_jobs.specs.declared.run.KillStep.{KillStep}
 use Rattle.sh_builtin_jobs.specs.declared.run.KillStep.TheVariants as kill
 use Rattle.sh_builtin_jobs.specs.declared.target.JobControl.{JobControl}
-use Rattle.sh_builtin_outcome.specs.Awaited.TheVariants as awaited
+use Rattle.sh_builtin_wait.specs.declared.run.Awaited.TheVariants as awaited
 use Rattle.sh_builtin_outcome.specs.Outcomes.{continuing, killing, output, reading, refusal, refused_with, saying, waiting}
-use Rattle.sh_builtin_outcome.specs.WaitStart.{WaitStart}
-use Rattle.sh_builtin_outcome.specs.WaitStart.TheVariants as start
-use Rattle.sh_builtin_outcome.specs.WaitStep.{WaitStep}
-use Rattle.sh_builtin_outcome.specs.WaitStep.TheVariants as step
-use Rattle.sh_builtin_outcome.specs.Waits.{wait_of}
+use Rattle.sh_builtin_wait.specs.declared.command.WaitStart.{WaitStart}
+use Rattle.sh_builtin_wait.specs.declared.command.WaitStart.TheVariants as start
+use Rattle.sh_builtin_wait.specs.declared.run.WaitStep.{WaitStep}
+use Rattle.sh_builtin_wait.specs.declared.run.WaitStep.TheVariants as step
+use Rattle.sh_builtin_wait.specs.Waits.{wait_of}
 use Rattle.sh_builtin_outcome.specs.declared.builtin.Builtin.TheVariants.{Kill, Read, Wait}
 use Rattle.sh_builtin_outcome.specs.declared.outcome.Outcome.{Outcome}
 use Rattle.sh_builtin_outcome.specs.declared.rest.Continuation.TheVariants.{Background, Foreground}

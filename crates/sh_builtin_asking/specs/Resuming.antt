@@ -9,13 +9,13 @@ use Rattle.sh_builtin_jobs.specs.Continuing.{after_continuing}
 use Rattle.sh_builtin_jobs.specs.KillRuns.{kill_next}
 use Rattle.sh_builtin_jobs.specs.declared.continuing.ContinuedJob.{ContinuedJob}
 use Rattle.sh_builtin_jobs.specs.declared.run.KillAsk.{KillAsk}
-use Rattle.sh_builtin_outcome.specs.Awaited.{Awaited}
-use Rattle.sh_builtin_outcome.specs.Awaited.TheVariants.{All, Operand}
-use Rattle.sh_builtin_outcome.specs.OperandWait.{OperandWait}
+use Rattle.sh_builtin_wait.specs.declared.run.Awaited.{Awaited}
+use Rattle.sh_builtin_wait.specs.declared.run.Awaited.TheVariants.{All, Operand}
+use Rattle.sh_builtin_wait.specs.declared.run.OperandWait.{OperandWait}
 use Rattle.sh_builtin_outcome.specs.Outcomes.{continuing, done, foreground, killing, reading, refusal, saying, waiting}
-use Rattle.sh_builtin_outcome.specs.WaitTarget.{WaitTarget}
-use Rattle.sh_builtin_outcome.specs.WaitTarget.TheVariants.{Process, Job as job_target}
-use Rattle.sh_builtin_outcome.specs.Waits.{next_wait}
+use Rattle.sh_builtin_wait.specs.declared.target.WaitTarget.{WaitTarget}
+use Rattle.sh_builtin_wait.specs.declared.target.WaitTarget.TheVariants.{Process, Job as job_target}
+use Rattle.sh_builtin_wait.specs.Waits.{next_wait}
 use Rattle.sh_builtin_outcome.specs.declared.builtin.Builtin.TheVariants.{Read}
 use Rattle.sh_builtin_outcome.specs.declared.outcome.Outcome.{Outcome}
 use Rattle.sh_builtin_outcome.specs.declared.rest.BuiltinRest.{BuiltinRest}

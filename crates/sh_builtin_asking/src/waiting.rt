@@ -3,16 +3,15 @@ ghost use Rattle.std.specs.Prelude.{◌≡◌, IfOk};
 ghost use Rattle.sh_builtin_asking.specs.BuiltIns.{wait_outcome, wait_ran, wait_start, wait_step, with_outcome};
 ghost use Rattle.sh_builtin_asking.specs.Resuming.{next_operand, operand_ended, said_so_far, wait_caught, wait_ended, wait_resumed, without_target};
 ghost use Rattle.sh_builtin_shell.specs.Shells.{up_to_date};
-ghost use Rattle.sh_builtin_outcome.specs.Waits.{wait_of};
+ghost use Rattle.sh_builtin_wait.specs.Waits.{wait_of};
 ghost use Rattle.sh_kernel.specs.State.{KernelState, StandsAt};
 
 use crate::answer::Answer;
 use sh_base::NoMemory;
 use sh_base::sequence::{Sequence, Text};
-use sh_builtin_outcome::{
-    Awaited, Builtin, OperandWait, Outcome, WaitStart, WaitStep, WaitTarget, wait_of,
-};
+use sh_builtin_outcome::{Builtin, Outcome};
 use sh_builtin_shell::Shell;
+use sh_builtin_wait::{Awaited, OperandWait, WaitStart, WaitStep, WaitTarget, wait_of};
 use sh_kernel::Kernel;
 use sh_signal::Signal;
 use std::alloc::Global;

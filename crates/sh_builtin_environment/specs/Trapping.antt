@@ -11,8 +11,8 @@ use Rattle.sh_builtin_environment.specs.declared.outcome.BuiltinFault.TheVariant
 use Rattle.sh_builtin_environment.specs.declared.outcome.Outcome.{Outcome}
 use Rattle.sh_builtin_environment.specs.declared.outcome.Outcome.TheVariants.{Done, Fault, Output}
 use Rattle.sh_builtin_environment.specs.declared.trapping.TrapOutcome.{TrapOutcome}
-use Rattle.sh_kernel_signals.specs.Sets.{has, no_signals, with_signal}
-use Rattle.sh_kernel_signals.specs.declared.set.SignalSet.{SignalSet}
+use Rattle.sh_kernel_processes.specs.Sets.{has, no_signals, with_signal}
+use Rattle.sh_kernel_processes.specs.declared.set.SignalSet.{SignalSet}
 
 -- ---- the traps, and the signals whose traps were set
 pub record TrapsSet : Type 0 where
@@ -51,7 +51,7 @@ after_setting fixed t action condition =
 
 -- ---- conditions from left to right, up to one that is none
 abbrev pub set_one : (fixed : SignalSet) → TrapsSet → Option (List ℕ) → List ℕ → Option Condition → (TrapsSet → Trapped) → Trapped
-set_one fixed t action word None next = with_outcome t (Fault (fault.BadName word))
+set_one fixed t action word None next = with_outcome t (Fault (fault.BadCondition word))
 set_one fixed t action word (Some condition) next = next (after_setting fixed t action condition)
 
 abbrev pub set_all : (fixed : SignalSet) → TrapsSet → Option (List ℕ) → List (List ℕ) → Trapped

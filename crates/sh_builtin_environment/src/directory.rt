@@ -12,8 +12,8 @@ use crate::outcome::{BuiltinFault, Outcome};
 use crate::variables::{is_read_only, set_value};
 use sh_base::NoMemory;
 use sh_base::sequence::{Sequence, Text};
-use sh_files::{Files, Node};
-use sh_files_image::{absolute, split_slash, step};
+use sh_files::Files;
+use sh_files_image::{Node, absolute, split_slash, step};
 use sh_vars::Vars;
 use std::alloc::Global;
 

@@ -10,8 +10,9 @@ use crate::options::parse_options;
 use crate::outcome::{BuiltinFault, Outcome};
 use crate::variables::{is_read_only, set_value};
 use sh_base::NoMemory;
+use sh_base::name::is_name;
 use sh_base::sequence::Text;
-use sh_vars::{Vars, VarsFault, is_name};
+use sh_vars::{Vars, VarsFault};
 use std::alloc::Global;
 
 /// The place of the first `=` in an operand.

@@ -2,13 +2,15 @@
 use sh_base::sequence::Text;
 
 /// Why a built-in is refused. A message says it; after the message a special built-in ends a shell that isn't
-/// interactive (XCU 2.8.1).
+/// interactive (XCU 2.8.1), but for a condition that is none.
 #[derive(Debug, Drop)]
 pub enum BuiltinFault {
     /// Its options are wrong, or its operands or their number.
     Usage,
-    /// This operand has no name where one is needed; of `trap`, it is no condition.
+    /// This operand has no name where one is needed.
     BadName(Text),
+    /// This operand of `trap` is no condition. It is told like a bad name, but ends no shell (XCU trap, EXIT STATUS).
+    BadCondition(Text),
     /// The variable of this name is read-only.
     ReadOnly(Text),
     /// This word doesn't lead to what is needed: of `cd` a directory, of `.` a file that can be read.

@@ -1,6 +1,6 @@
 //! The built-in trap (XCU 2.15).
 ghost use Rattle.std.specs.Prelude.{◌≡◌, IfOk, option_map};
-ghost use Rattle.sh_kernel_signals.specs.Sets.{no_signals};
+ghost use Rattle.sh_kernel_processes.specs.Sets.{no_signals};
 ghost use Rattle.sh_builtin_environment.specs.Trapping.{action_in, after_setting, is_fixed, none_changed, set_all, set_behind, trap_ran, trap_with, trapped_by, with_condition};
 
 use crate::options::parse_options;
@@ -9,7 +9,7 @@ use crate::traps::{Traps, copy_of_action};
 use sh_base::NoMemory;
 use sh_base::decimal::number_of;
 use sh_base::sequence::Text;
-use sh_kernel_signals::SignalSet;
+use sh_kernel_processes::SignalSet;
 use sh_signal::Condition;
 use std::alloc::Global;
 
@@ -92,7 +92,7 @@ fn set_all(
             let word = Text::copy_of(alloc, word.as_slice())?;
             return Ok(TrapOutcome {
                 signals,
-                outcome: Outcome::Fault(BuiltinFault::BadName(word)),
+                outcome: Outcome::Fault(BuiltinFault::BadCondition(word)),
             });
         };
         signals = set_one(alloc, traps, fixed, signals, action, condition)?;

@@ -7,8 +7,9 @@ use crate::options::parse_options;
 use crate::outcome::{BuiltinFault, Outcome};
 use crate::variables::is_read_only;
 use sh_base::NoMemory;
+use sh_base::name::is_name;
 use sh_base::sequence::Text;
-use sh_vars::{Vars, is_name};
+use sh_vars::Vars;
 use std::alloc::Global;
 
 /// Unsets a variable, or a function.

@@ -5,8 +5,9 @@ ghost use Rattle.sh_vars.specs.Environment.{is_read_only, with_value};
 ghost use Rattle.sh_base.specs.Names.{is_name};
 
 use sh_base::NoMemory;
+use sh_base::name::is_name;
 use sh_base::sequence::{Sequence, Text};
-use sh_vars::{Vars, VarsFault, is_name};
+use sh_vars::{Vars, VarsFault};
 use std::alloc::Global;
 
 /// Whether a variable is read-only.

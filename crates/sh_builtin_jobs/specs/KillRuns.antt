@@ -10,7 +10,7 @@ use Rattle.sh_builtin_jobs.specs.declared.target.JobControl.{JobControl}
 use Rattle.sh_jobs.specs.declared.fault.JobFault.{JobFault}
 use Rattle.sh_jobs.specs.declared.job.Job.{Job}
 use Rattle.sh_kernel_processes.specs.declared.process.Process.{Process}
-use Rattle.sh_kernel_signals.specs.declared.target.SignalTarget.{SignalTarget}
+use Rattle.sh_kernel_processes.specs.declared.target.SignalTarget.{SignalTarget}
 
 -- ---- what is said of an operand: of one that names no job, and of one that reaches no process
 abbrev pub said_of : Result SignalTarget JobFault → (is_reached : Bool) → Option (List ℕ)

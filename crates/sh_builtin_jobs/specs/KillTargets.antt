@@ -9,8 +9,8 @@ use Rattle.sh_jobs.specs.declared.fault.JobFault.{JobFault}
 use Rattle.sh_jobs.specs.declared.fault.JobFault.TheVariants.{NoSuchJob}
 use Rattle.sh_jobs.specs.declared.job.Job.{Job}
 use Rattle.sh_kernel_processes.specs.declared.process.Process as process
-use Rattle.sh_kernel_signals.specs.declared.target.SignalTarget.{SignalTarget}
-use Rattle.sh_kernel_signals.specs.declared.target.SignalTarget.TheVariants.{Process, Group, Processes}
+use Rattle.sh_kernel_processes.specs.declared.target.SignalTarget.{SignalTarget}
+use Rattle.sh_kernel_processes.specs.declared.target.SignalTarget.TheVariants.{Process, Group, Processes}
 
 -- ---- a number: 0 is the own group, and no process or group has a number from 2 ^ 32 on
 abbrev pub process_with : Option ℕ → SignalTarget

@@ -9,7 +9,7 @@ use crate::target::{JobControl, kill_target};
 use sh_base::NoMemory;
 use sh_base::sequence::{Sequence, Text, copies_of};
 use sh_jobs::{JobFault, Jobs, Kernel};
-use sh_kernel_signals::SignalTarget;
+use sh_kernel_processes::SignalTarget;
 use std::alloc::Global;
 
 /// An operand of `kill`, for which the kernel is asked: the signal goes to its target, if there is one, and the answer is whether a process

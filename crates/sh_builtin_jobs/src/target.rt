@@ -10,7 +10,7 @@ use sh_base::NoMemory;
 use sh_base::decimal::number_of;
 use sh_base::sequence::Sequence;
 use sh_jobs::{Job, JobFault, Jobs, Kernel};
-use sh_kernel_signals::SignalTarget;
+use sh_kernel_processes::SignalTarget;
 use std::alloc::Global;
 
 /// The job control of a shell (XCU 2.11).

@@ -5,9 +5,3 @@ pub mod Messages
 pub mod Outcomes
 pub mod Rests
 pub use Rattle.sh_builtin_shell.specs.Functions
-pub use Rattle.sh_builtin_wait.specs.Waits
-pub use Rattle.sh_builtin_wait.specs.declared.command.WaitStart
-pub use Rattle.sh_builtin_wait.specs.declared.run.Awaited
-pub use Rattle.sh_builtin_wait.specs.declared.run.OperandWait
-pub use Rattle.sh_builtin_wait.specs.declared.run.WaitStep
-pub use Rattle.sh_builtin_wait.specs.declared.target.WaitTarget

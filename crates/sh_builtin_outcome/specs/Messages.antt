@@ -19,6 +19,7 @@ read_only name = name ++ codes ": read only"
 abbrev pub fault_text : List ℕ → BuiltinFault → List ℕ
 fault_text name fault.Usage = usage name
 fault_text name (fault.BadName word) = name ++ codes ": " ++ word ++ codes ": bad name"
+fault_text name (fault.BadCondition word) = name ++ codes ": " ++ word ++ codes ": bad name"
 fault_text name (fault.ReadOnly variable) = read_only variable
 fault_text name (fault.CannotOpen path) = name ++ codes ": " ++ path ++ codes ": cannot open"
 
@@ -26,5 +27,6 @@ fault_text name (fault.CannotOpen path) = name ++ codes ": " ++ path ++ codes ":
 abbrev pub status_of : BuiltinFault → ℕ
 status_of fault.Usage = 2
 status_of (fault.BadName word) = 2
+status_of (fault.BadCondition word) = 2
 status_of (fault.ReadOnly variable) = 2
 status_of (fault.CannotOpen path) = 1

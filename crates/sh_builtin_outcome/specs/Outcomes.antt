@@ -1,5 +1,5 @@
 -- What a built-in comes to, beside what it changes of the shell: what it writes, and how it ends.
-use Rattle.std.specs.Prelude.{ℕ, List, [], ◌∷◌, Bool, true, false, Option, Some, None}
+use Rattle.std.specs.Prelude.{ℕ, List, [], ◌∷◌, ◌&&◌, Bool, true, false, Option, Some, None}
 use Rattle.sh_builtin_outcome.specs.Builtins.{is_special, name_of}
 use Rattle.sh_builtin_outcome.specs.Messages.{fault_text, line_of, status_of}
 use Rattle.sh_builtin_outcome.specs.declared.builtin.Builtin.{Builtin}
@@ -20,8 +20,8 @@ use Rattle.sh_builtin_environment.specs.declared.outcome.Outcome.TheVariants as 
 use Rattle.sh_builtin_wait.specs.KillAsk.{KillAsk}
 use Rattle.sh_builtin_regular.specs.declared.reader.LineReader.{LineReader}
 use Rattle.sh_builtin_wait.specs.declared.run.Awaited.{Awaited}
-use Rattle.sh_kernel_signals.specs.Sets.{no_signals}
-use Rattle.sh_kernel_signals.specs.declared.set.SignalSet.{SignalSet}
+use Rattle.sh_kernel_processes.specs.Sets.{no_signals}
+use Rattle.sh_kernel_processes.specs.declared.set.SignalSet.{SignalSet}
 
 -- its output, its messages, and how it ends
 abbrev pub outcome : List ℕ → List (List ℕ) → Completion → Outcome
@@ -91,10 +91,18 @@ abbrev pub failure : (is_special : Bool) → ℕ → Completion
 failure true status = Left (leave.Fault 2)
 failure false status = Done status
 
+-- a condition of trap that is none is no such error, and ends no shell (XCU trap, EXIT STATUS)
+abbrev pub is_error : BuiltinFault → Bool
+is_error (fault.BadCondition word) = false
+is_error fault.Usage = true
+is_error (fault.BadName word) = true
+is_error (fault.ReadOnly variable) = true
+is_error (fault.CannotOpen path) = true
+
 -- one that is refused has a message, and no output
 abbrev pub refusal : Builtin → BuiltinFault → Outcome
 refusal builtin why =
-    outcome [] (line_of (fault_text (name_of builtin) why) ∷ []) (failure (is_special builtin) (status_of why))
+    outcome [] (line_of (fault_text (name_of builtin) why) ∷ []) (failure (is_special builtin && is_error why) (status_of why))
 
 -- one with wrong options or operands
 abbrev pub misuse : Builtin → Outcome

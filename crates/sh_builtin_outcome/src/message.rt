@@ -39,6 +39,7 @@ pub(crate) fn fault_line(alloc: Global, name: &[u8], fault: BuiltinFault) -> Res
     match fault {
         BuiltinFault::Usage => line(alloc, name, b": usage"),
         BuiltinFault::BadName(word) => line_about(alloc, name, word.as_slice(), b": bad name"),
+        BuiltinFault::BadCondition(word) => line_about(alloc, name, word.as_slice(), b": bad name"),
         BuiltinFault::ReadOnly(variable) => line(alloc, variable.as_slice(), b": read only"),
         BuiltinFault::CannotOpen(path) => {
             line_about(alloc, name, path.as_slice(), b": cannot open")
@@ -53,6 +54,7 @@ pub(crate) fn status_of(fault: &BuiltinFault) -> u8
     match fault {
         BuiltinFault::Usage => 2,
         BuiltinFault::BadName(_) => 2,
+        BuiltinFault::BadCondition(_) => 2,
         BuiltinFault::ReadOnly(_) => 2,
         BuiltinFault::CannotOpen(_) => 1,
     }

@@ -1,7 +1,7 @@
 //! What built-ins come to.
 ghost use Rattle.std.specs.Prelude.{◌≡◌, IfOk, option_map};
 ghost use Rattle.sh_builtin_outcome.specs.Rests.{ask_of};
-ghost use Rattle.sh_builtin_outcome.specs.Outcomes.{continuing, done, failure, foreground, killing, left, misuse, output, outcome_of, reading, refusal, refused_with, rest_in, running, saying, shell_status, waiting, with_signals};
+ghost use Rattle.sh_builtin_outcome.specs.Outcomes.{continuing, done, failure, foreground, is_error, killing, left, misuse, output, outcome_of, reading, refusal, refused_with, rest_in, running, saying, shell_status, waiting, with_signals};
 
 use crate::builtin::Builtin;
 use crate::message::{fault_line, status_of};
@@ -11,7 +11,7 @@ use sh_base::sequence::{Sequence, Text};
 use sh_builtin_environment::BuiltinFault;
 use sh_builtin_regular::LineReader;
 use sh_builtin_wait::{Awaited, KillAsk};
-use sh_kernel_signals::SignalSet;
+use sh_kernel_processes::SignalSet;
 use std::alloc::Global;
 
 /// How commands are left before their end.
@@ -277,6 +277,7 @@ impl Outcome {
         ensures { IfOk result (λ outcome. outcome ≡ refusal builtin fault) }
     {
         let status = status_of(&fault);
+        let ends_shell = builtin.is_special() && is_error(&fault);
         let line = fault_line(alloc, builtin.name(), fault)?;
         let mut err = Sequence::new(alloc);
         err.push(line)?;
@@ -284,7 +285,7 @@ impl Outcome {
             signals: SignalSet::new(),
             out: Sequence::new(alloc),
             err,
-            status: failure(builtin.is_special(), status),
+            status: failure(ends_shell, status),
         })
     }
 
@@ -311,6 +312,13 @@ impl Outcome {
             ),
         }
     }
+}
+
+/// Whether a special built-in that is refused for this ends a shell (XCU 2.8.1, trap).
+fn is_error(fault: &BuiltinFault) -> bool
+    ensures { result ≡ is_error fault.now }
+{
+    !matches!(fault, BuiltinFault::BadCondition(_))
 }
 
 /// How a built-in ends that is refused.

@@ -7,7 +7,8 @@ use crate::number::Whole;
 use sh_base::NoMemory;
 use sh_base::decimal::number_of;
 use sh_base::sequence::Text;
-use sh_files::{Files, Flags, Node};
+use sh_files::Files;
+use sh_files_image::{Flags, Node};
 
 /// What `test` answers.
 #[derive(Clone, Copy, Debug, PartialEq, Eq)]

@@ -7,11 +7,12 @@ ghost use Rattle.sh_builtin_regular.specs.Assigning.{line_assigned};
 
 use crate::assigning::assign_all;
 use sh_base::NoMemory;
+use sh_base::name::is_name;
 use sh_base::sequence::{Sequence, Text, copies_of};
 use sh_builtin_environment::{BuiltinFault, parse_options};
 use sh_expand_fields::split_line;
 use sh_pattern::PatternByte;
-use sh_vars::{Vars, is_name};
+use sh_vars::Vars;
 use std::alloc::Global;
 
 /// A line that `read` reads (XCU read), and the variables that its fields are for.

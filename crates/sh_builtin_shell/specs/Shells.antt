@@ -9,7 +9,7 @@ use Rattle.sh_jobs.specs.Table.{with_launch, without}
 use Rattle.sh_jobs.specs.declared.state.JobState.{JobState}
 use Rattle.sh_jobs.specs.declared.state.JobState.TheVariants.{Running}
 use Rattle.sh_jobs.specs.State.{KernelState}
-use Rattle.sh_kernel_signals.specs.Groups.{member_at}
+use Rattle.sh_kernel_processes.specs.Groups.{member_at}
 use Rattle.sh_vars.specs.Environment.{Environment, with_background}
 
 -- ---- the shell of a process that another one made

@@ -3,10 +3,10 @@ ghost use Rattle.std.specs.Prelude.{◌≡◌, [], IfOk, OnOk, option_map};
 ghost use Rattle.sh_builtin_shell.specs.Functions.{body_of, defined, without, without_all};
 
 use sh_base::NoMemory;
+use sh_base::name::is_name;
 use sh_base::sequence::Text;
 use sh_base::shared::Shared;
 use sh_syntax::tree::Command;
-use sh_vars::is_name;
 use std::alloc::Global;
 use std::marker::Model;
 

@@ -12,7 +12,7 @@ use sh_base::NoMemory;
 use sh_base::sequence::Sequence;
 use sh_builtin_environment::Traps;
 use sh_jobs::{JobState, Jobs, Kernel, latest_change};
-use sh_kernel_signals::SignalSet;
+use sh_kernel_processes::SignalSet;
 use sh_vars::Vars;
 use std::alloc::Global;
 use std::mem;

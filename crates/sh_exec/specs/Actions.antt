@@ -70,11 +70,7 @@ action_at caught background (Ending status) = Acts
 
 abbrev pub action_in : (caught : Option Signal) → (background : List ℕ) → Active → Asked
 action_in caught background (Next place) = action_at caught background place
-action_in caught background (Acting invocation fields) = Acts
-action_in caught background (Calling body fields) = Acts
-action_in caught background (Evaluating how text) = Acts
-action_in caught background (Done ended) = Acts
-action_in caught background (Leaving status) = Acts
+action_in caught background _ = Acts
 
 -- a program reads by descriptor 0, and writes by descriptor 1
 abbrev pub action_for : Ask → Asked
@@ -88,11 +84,7 @@ action_for (ask.End status) = Acts
 -- its descriptor 2 doesn't lead to a pipe
 abbrev pub is_called_in : KernelState → Shell → Active → Bool
 is_called_in s shell (Next place) = is_called s shell place
-is_called_in s shell (Acting invocation fields) = false
-is_called_in s shell (Calling body fields) = false
-is_called_in s shell (Evaluating how text) = false
-is_called_in s shell (Done ended) = false
-is_called_in s shell (Leaving leave) = false
+is_called_in s shell _ = false
 
 abbrev pub shell_action : KernelState → Shell → Active → Asked
 shell_action s shell active =

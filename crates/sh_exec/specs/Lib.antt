@@ -9,12 +9,5 @@ pub mod State
 pub mod Tasks
 pub mod TurnActions
 pub mod Turns
-pub use Rattle.sh_exec_shell.specs.Acting
-pub use Rattle.sh_exec_shell.specs.Builtins
+-- of sh_exec_forms
 pub use Rattle.sh_exec_shell.specs.Codes
-pub use Rattle.sh_exec_shell.specs.Forks
-pub use Rattle.sh_exec_shell.specs.Forms
-pub use Rattle.sh_exec_shell.specs.Groups
-pub use Rattle.sh_exec_shell.specs.Input
-pub use Rattle.sh_exec_shell.specs.Reduction
-pub use Rattle.sh_exec_shell.specs.Traps

@@ -12,7 +12,7 @@ use Rattle.sh_stock.specs.Asking.{Meaning}
 use Rattle.sh_stock.specs.declared.asking.Answer.{Answer}
 use Rattle.sh_stock.specs.declared.asking.Answer.TheVariants as answer
 use Rattle.sh_stock.specs.declared.asking.Ask.{Ask}
-use Rattle.sh_kernel_signals.specs.declared.target.SignalTarget.TheVariants.{Process}
+use Rattle.sh_kernel_processes.specs.declared.target.SignalTarget.TheVariants.{Process}
 use Rattle.sh_signal.specs.declared.signal.Signal.TheVariants.{Stop}
 use Rattle.sh_stock.specs.declared.asking.Ask.TheVariants as ask
 use Rattle.sh_stock.specs.declared.asking.Ask.TheVariants.{Read, Write, Idle, End}

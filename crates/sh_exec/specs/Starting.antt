@@ -26,9 +26,9 @@ use Rattle.sh_exec_shell.specs.Signals.{after_own_signals}
 use Rattle.sh_kernel.specs.Calls.{start_call}
 use Rattle.sh_kernel.specs.State.{KernelState}
 use Rattle.sh_kernel_processes.specs.Processes.{parent_at}
-use Rattle.sh_kernel_signals.specs.Groups.{member_at}
-use Rattle.sh_kernel_signals.specs.Sets.{no_signals}
-use Rattle.sh_kernel_signals.specs.declared.set.SignalSet.{SignalSet}
+use Rattle.sh_kernel_processes.specs.Groups.{member_at}
+use Rattle.sh_kernel_processes.specs.Sets.{no_signals}
+use Rattle.sh_kernel_processes.specs.declared.set.SignalSet.{SignalSet}
 use Rattle.std.specs.Option.{option_map_or}
 use Rattle.sh_stock.specs.Asking.{Meaning}
 use Rattle.sh_stock.specs.declared.asking.Answer.TheVariants as answer
@@ -103,30 +103,9 @@ start_turn m s shell start = start_by m s shell start start.fields
 
 -- what a shell is about to start
 abbrev pub starting_at : Action → Option ProgramStart
-starting_at (Reading rest status) = None
-starting_at (Prompting beginning) = None
-starting_at (ReadInput beginning) = None
-starting_at (Expanding wants pending) = None
-starting_at (ReadSubstitution substitution) = None
-starting_at (WaitSubstitution substitution) = None
-starting_at (Asking rest) = None
-starting_at (WaitForJob wait) = None
-starting_at (Redirecting p) = None
-starting_at (Forking p) = None
 starting_at (Starting start) = Some start
-starting_at (ForkStage stages) = None
-starting_at (ForkList list) = None
-starting_at (AssignLoopVariable series) = None
-starting_at (Defining definition) = None
-starting_at (Waiting wait) = None
-starting_at (Writing piece finish) = None
-starting_at (Trapping status) = None
-starting_at (Ending status) = None
+starting_at _ = None
 
 abbrev pub starting_in : Active → Option ProgramStart
 starting_in (Next place) = starting_at place
-starting_in (Acting invocation fields) = None
-starting_in (Calling body fields) = None
-starting_in (Evaluating how text) = None
-starting_in (Done ended) = None
-starting_in (Leaving status) = None
+starting_in _ = None

@@ -1,5 +1,5 @@
 -- Processes: their numbers, the first shell, and the running forms of a shell.
-use Rattle.std.specs.Prelude.{ℕ, List, [], true, Option, Some, None, if◌then◌else◌}
+use Rattle.std.specs.Prelude.{◌≡◌, ℕ, List, [], reverse, true, Option, Some, None, if◌then◌else◌}
 use Rattle.sh_aliases.specs.Aliases.{no_aliases}
 use Rattle.sh_builtin_environment.specs.TrapMaps.{none_set}
 use Rattle.sh_exec.specs.Scripts.{script_place}
@@ -15,13 +15,15 @@ use Rattle.sh_exec_actions.specs.declared.action.Action.TheVariants.{Prompting, 
 use Rattle.sh_builtin_shell.specs.Shells.{is_interactive}
 use Rattle.sh_builtin_shell.specs.declared.shell.Shell.{Shell}
 use Rattle.sh_exec_shell.specs.Signals.{after_start_of}
+use Rattle.sh_exec_shell.specs.Frames.{forms_in}
 use Rattle.sh_exec_shell.specs.Stacks as shell
-use Rattle.sh_exec_shell.specs.Running.{At}
+use Rattle.sh_exec_shell.specs.Stacks.{run_of}
+use Rattle.sh_exec_shell.specs.Running.{At, active_of}
 use Rattle.sh_exec_actions.specs.declared.form.Frame.{Frame}
 use Rattle.sh_files.specs.Nodes.{FileMap}
 use Rattle.sh_jobs.specs.declared.job.Job.{Job}
 use Rattle.sh_kernel.specs.State.{KernelState}
-use Rattle.sh_kernel_signals.specs.Sets.{no_signals}
+use Rattle.sh_kernel_processes.specs.Sets.{no_signals}
 use Rattle.sh_vars.specs.Environment.{Environment, with_options, with_positional, with_zero}
 use Rattle.sh_vars.specs.Starting.{starting}
 use Rattle.sh_vars.specs.declared.shell_options.Options.{Options}
@@ -79,3 +81,8 @@ first_jobs (Asks pid ask program) = None
 abbrev pub frames_of : {S : Type 0} → Task S → List Frame
 frames_of (Runs interpreter) = shell.frames_of interpreter.run
 frames_of (Asks pid ask program) = []
+
+-- forms, the outermost first, are those round the place of a shell: with that place they are the whole of what it runs. None are round a program
+abbrev pub AreRound : {S : Type 0} → List Frame → Task S → Type 0
+AreRound frames (Runs interpreter) = run_of (forms_in (reverse frames)) (active_of interpreter.run) ≡ interpreter.run
+AreRound frames (Asks pid ask program) = frames ≡ []

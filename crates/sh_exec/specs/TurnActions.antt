@@ -23,12 +23,8 @@ use Rattle.sh_stock.specs.declared.asking.Ask.{Ask}
 use Rattle.sh_stock.specs.declared.asking.Ask.TheVariants as ask
 
 abbrev pub turn_action_of_expansion : ToExpand → TurnAction
-turn_action_of_expansion (Words command in_place status) = turn.Expand
 turn_action_of_expansion (Values command) = turn.Assign
-turn_action_of_expansion (Redirects command) = turn.Expand
-turn_action_of_expansion (ForWords command) = turn.Expand
-turn_action_of_expansion (CaseWord command) = turn.Expand
-turn_action_of_expansion (CasePattern choice) = turn.Expand
+turn_action_of_expansion _ = turn.Expand
 
 -- what a built-in asks
 abbrev pub turn_action_of_ask : Asked → TurnAction
@@ -61,11 +57,7 @@ turn_action_at (Ending status) = turn.End status
 -- between two turns a shell stands before an action, so no turn begins at another place
 abbrev pub turn_action_in : Active → Option TurnAction
 turn_action_in (Next place) = Some (turn_action_at place)
-turn_action_in (Acting invocation fields) = None
-turn_action_in (Calling body fields) = None
-turn_action_in (Evaluating how text) = None
-turn_action_in (Done ended) = None
-turn_action_in (Leaving status) = None
+turn_action_in _ = None
 
 -- a program reads by descriptor 0, and writes by descriptor 1
 abbrev pub turn_action_for : Ask → TurnAction
@@ -82,11 +74,7 @@ turn_action_of (Asks pid ask program) = Some (turn_action_for ask)
 -- ---- whether the action of a trap on a signal comes before that (2.12)
 abbrev pub takes_trap_in : KernelState → Shell → Active → Bool
 takes_trap_in s shell (Next place) = is_some (trap_before s shell place)
-takes_trap_in s shell (Acting invocation fields) = false
-takes_trap_in s shell (Calling body fields) = false
-takes_trap_in s shell (Evaluating how text) = false
-takes_trap_in s shell (Done ended) = false
-takes_trap_in s shell (Leaving status) = false
+takes_trap_in s shell _ = false
 
 abbrev pub takes_trap : {S : Type 0} → KernelState → Task S → Bool
 takes_trap s (Runs interpreter) = takes_trap_in s interpreter.shell (active_of interpreter.run)
@@ -95,11 +83,7 @@ takes_trap s (Asks pid ask program) = false
 -- ---- whether INT has an interactive shell drop what it does before that
 abbrev pub drops_in : KernelState → Shell → Active → Bool
 drops_in s shell (Next place) = drops_before s shell place
-drops_in s shell (Acting invocation fields) = false
-drops_in s shell (Calling body fields) = false
-drops_in s shell (Evaluating how text) = false
-drops_in s shell (Done ended) = false
-drops_in s shell (Leaving status) = false
+drops_in s shell _ = false
 
 abbrev pub drops : {S : Type 0} → KernelState → Task S → Bool
 drops s (Runs interpreter) = drops_in s interpreter.shell (active_of interpreter.run)
@@ -108,32 +92,11 @@ drops s (Asks pid ask program) = false
 -- ---- the words of the program that is started in the next turn, its name first
 abbrev pub words_at : Action → Option (List (List ℕ))
 words_at (Starting start) = Some start.fields
-words_at (Reading rest status) = None
-words_at (Prompting beginning) = None
-words_at (ReadInput beginning) = None
-words_at (Expanding wants pending) = None
-words_at (ReadSubstitution substitution) = None
-words_at (WaitSubstitution substitution) = None
-words_at (Asking rest) = None
-words_at (WaitForJob wait) = None
-words_at (Redirecting p) = None
-words_at (Forking p) = None
-words_at (ForkStage stages) = None
-words_at (ForkList list) = None
-words_at (AssignLoopVariable series) = None
-words_at (Defining definition) = None
-words_at (Waiting wait) = None
-words_at (Writing piece finish) = None
-words_at (Trapping status) = None
-words_at (Ending status) = None
+words_at _ = None
 
 abbrev pub words_in : Active → Option (List (List ℕ))
 words_in (Next place) = words_at place
-words_in (Acting invocation fields) = None
-words_in (Calling body fields) = None
-words_in (Evaluating how text) = None
-words_in (Done ended) = None
-words_in (Leaving status) = None
+words_in _ = None
 
 abbrev pub starting_words : {S : Type 0} → Task S → Option (List (List ℕ))
 starting_words (Runs interpreter) = words_in (active_of interpreter.run)

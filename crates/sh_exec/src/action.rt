@@ -9,7 +9,8 @@ use sh_builtin_shell::Shell;
 use sh_builtin_wait::Awaited;
 use sh_exec_actions::{Action, Active, PipelineWait};
 use sh_exec_shell::{is_called, pending_signal};
-use sh_kernel::{Cause, DescriptorRef, Kernel, Next};
+use sh_kernel::{Cause, Kernel, Next};
+use sh_kernel_descriptors::DescriptorRef;
 use sh_signal::Signal;
 use sh_stock::Ask;
 
@@ -91,11 +92,7 @@ fn action_in<'a>(caught: Option<Signal>, background: &'a [u32], active: &'a Acti
 {
     match active {
         Active::Next(place) => action_at(caught, background, place),
-        Active::Acting(_, _) => Next::Other,
-        Active::Calling(_, _) => Next::Other,
-        Active::Evaluating(_, _) => Next::Other,
-        Active::Done(_) => Next::Other,
-        Active::Leaving(_) => Next::Other,
+        _ => Next::Other,
     }
 }
 
@@ -105,11 +102,7 @@ fn is_called_in(kernel: &Kernel, shell: &Shell, active: &Active) -> bool
 {
     match active {
         Active::Next(place) => is_called(kernel, shell, place),
-        Active::Acting(_, _) => false,
-        Active::Calling(_, _) => false,
-        Active::Evaluating(_, _) => false,
-        Active::Done(_) => false,
-        Active::Leaving(_) => false,
+        _ => false,
     }
 }
 

@@ -8,8 +8,9 @@ ghost use Rattle.sh_exec.specs.Programs.{HasLeft, ask_turn, asking, asks, end_tu
 use sh_base::NoMemory;
 use sh_base::sequence::Text;
 use sh_exec_machine::{ReadOutcome, WriteOutcome, end_process, give_bytes, take_bytes};
-use sh_kernel::{DescriptorRef, Kernel, KernelFault};
-use sh_kernel_signals::SignalTarget;
+use sh_kernel::Kernel;
+use sh_kernel_descriptors::{DescriptorRef, KernelFault};
+use sh_kernel_processes::SignalTarget;
 use sh_signal::Signal;
 use sh_stock::{Answer, Ask, Stock};
 use std::alloc::Global;

@@ -9,7 +9,8 @@ use sh_exec_actions::status::{CANNOT_EXECUTE, NOT_FOUND};
 use sh_exec_actions::{Action, Finish};
 use sh_exec_parts::Rest;
 use sh_exec_parts::message::{cannot_execute, not_found};
-use sh_files::{File, Files, Node, may_be_read};
+use sh_files::{Files, may_be_read};
+use sh_files_image::{File, Node};
 use std::alloc::Global;
 
 /// The first place of a shell whose script isn't there.

@@ -12,25 +12,8 @@ fn starting_at(place: &Action) -> Option<&ProgramStart>
     ensures { option_map (λ start. start.now) result ≡ starting_at place.now }
 {
     match place {
-        Action::Reading(_, _) => None,
-        Action::Prompting(_) => None,
-        Action::ReadInput(_) => None,
-        Action::Expanding(_, _) => None,
-        Action::ReadSubstitution(_) => None,
-        Action::WaitSubstitution(_) => None,
-        Action::Asking(_) => None,
-        Action::WaitForJob(_) => None,
-        Action::Redirecting(_) => None,
-        Action::Forking(_) => None,
         Action::Starting(start) => Some(start),
-        Action::ForkStage(_) => None,
-        Action::ForkList(_) => None,
-        Action::AssignLoopVariable(_) => None,
-        Action::Defining(_) => None,
-        Action::Waiting(_) => None,
-        Action::Writing(_, _) => None,
-        Action::Trapping(_) => None,
-        Action::Ending(_) => None,
+        _ => None,
     }
 }
 

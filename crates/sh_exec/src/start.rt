@@ -23,7 +23,7 @@ use sh_exec_shell::{Interpreter, release_own_signals};
 use sh_files::{Files, Located, locate};
 use sh_jobs::Jobs;
 use sh_kernel::Kernel;
-use sh_kernel_signals::SignalSet;
+use sh_kernel_processes::SignalSet;
 use sh_stock::{Answer, Stock};
 use sh_vars::Vars;
 use std::alloc::Global;

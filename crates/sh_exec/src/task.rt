@@ -6,7 +6,7 @@ ghost use Rattle.sh_kernel.specs.Turns.{can_do};
 ghost use Rattle.sh_tty.specs.Terminal.{Extends};
 ghost use Rattle.sh_exec_shell.specs.Reduction.{shell_turn};
 ghost use Rattle.sh_exec.specs.Actions.{action_of, cause_of};
-ghost use Rattle.sh_exec.specs.Tasks.{first_jobs, first_place, first_task, options_of, with_signals_of, frames_of, jobs_of_first, pid_of};
+ghost use Rattle.sh_exec.specs.Tasks.{first_jobs, first_place, first_task, options_of, with_signals_of, AreRound, frames_of, jobs_of_first, pid_of};
 ghost use Rattle.sh_exec.specs.TurnActions.{drops, starting_words, takes_trap, turn_action_of};
 ghost use Rattle.sh_exec.specs.Turns.{IsTurned, by_shell, made_task, runs_by, task_behind, turn};
 
@@ -29,8 +29,8 @@ use sh_exec_parts::Rest;
 use sh_exec_shell::{Interpreter, heed_own_signals};
 use sh_files::Files;
 use sh_jobs::Jobs;
-use sh_kernel::{Cause, FIRST_PID, Kernel, Next};
-use sh_kernel_signals::SignalSet;
+use sh_kernel::{Cause, Kernel, Next};
+use sh_kernel_processes::{FIRST_PID, SignalSet};
 use sh_stock::{Ask, CopyStock, Stock};
 use sh_vars::{Options, Vars};
 use std::alloc::Global;
@@ -250,9 +250,10 @@ impl<S: Stock> Task<S> {
     }
 
     /// The running forms of a shell round the place where it acts, the outermost first, each with whether a failure inside it is ignored;
-    /// none of a program. Takes no memory.
+    /// none of a program. With that place they are the whole of what the shell runs. Takes no memory.
     pub fn frames(&self) -> &[Frame]
-        ensures { result.now ≡ frames_of self.now }
+        ensures frames { result.now ≡ frames_of self.now }
+        ensures tree { AreRound result.now self.now }
     {
         match self {
             Task::Runs(interpreter) => interpreter.frames(),

@@ -1,10 +1,4 @@
 pub mod Beginnings
+pub mod ForLoops
 pub mod Preparing
 pub mod Statuses
-pub use Rattle.sh_builtin_outcome.specs.Outcomes
-pub use Rattle.sh_builtin_outcome.specs.declared.invocation.Invocation
-pub use Rattle.sh_builtin_outcome.specs.declared.outcome.Leave
-pub use Rattle.sh_builtin_outcome.specs.declared.outcome.Outcome
-pub use Rattle.sh_builtin_outcome.specs.declared.outcome.TextOrigin
-pub use Rattle.sh_builtin_outcome.specs.declared.outcome.TextRun
-pub use Rattle.sh_expand.specs.Answers

@@ -15,6 +15,7 @@ use Rattle.sh_exec_parts.specs.Redirections.{redirections_of}
 use Rattle.sh_exec_parts.specs.Simple.{assignments_of, is_redirect, is_word, items_of, redirect_fields, redirects_of, word_fields}
 use Rattle.sh_exec_parts.specs.declared.redirection.Redirection.{Redirection}
 use Rattle.sh_exec_parts.specs.declared.simple.Assignment.{Assignment}
+use Rattle.sh_exec_actions.specs.declared.action.Active.{Active}
 use Rattle.sh_exec_actions.specs.declared.action.Active.TheVariants.{Acting, Calling, Next, Done}
 use Rattle.sh_exec_actions.specs.declared.action.Finish.{Finish}
 use Rattle.sh_exec_actions.specs.declared.action.Finish.TheVariants.{Status, Fault}
@@ -31,6 +32,10 @@ use Rattle.sh_exec_actions.specs.declared.action.ToExpand.TheVariants.{Words, Va
 use Rattle.sh_kernel_descriptors.specs.declared.fault.KernelFault.{KernelFault}
 use Rattle.sh_syntax.specs.declared.tree.Command.{Command}
 use Rattle.sh_vars.specs.Environment.{Environment}
+
+-- an error that ends the shell (2.8.1), once its message is written
+abbrev pub fatal : List ℕ → Active
+fatal text = Next (Writing (message text) (Fault statuses.error))
 
 -- the command has changed nothing yet
 abbrev pub no_undo : Command → Undo

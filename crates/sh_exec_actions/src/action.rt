@@ -8,7 +8,7 @@ use sh_exec_machine::Undone;
 use sh_exec_parts::message::Piece;
 use sh_exec_parts::redirection::Redirection;
 use sh_exec_parts::simple::Assignment;
-use sh_exec_parts::{Queue, Rest};
+use sh_exec_parts::{Queue, Rest, Saved};
 use sh_expand::Pending;
 use sh_syntax::tree::{AndOr, Command, CompoundList, Parts};
 use sh_vars::Entry;
@@ -31,15 +31,6 @@ pub enum Role {
     Compound(Shared<Command>),
     /// A process of its own, in which this list of a subshell (2.9.4.1) is entered.
     Subshell(Shared<CompoundList>),
-}
-
-/// A variable as it was before a command's assignment.
-#[derive(Drop)]
-pub enum Saved {
-    /// It was there.
-    Variable(Entry),
-    /// None of this name was.
-    Absent(Text),
 }
 
 /// How what a command changed is undone after it. Both lists are in the order of the changes, of which the

@@ -3,7 +3,7 @@ ghost use Rattle.std.specs.Prelude.{◌≡◌, IfOk};
 
 use crate::action::{
     Action, Active, Case, CaseBranch, ExpandedCommand, Finish, ForLoop, Launch, PipelineWait,
-    ProgramStart, Report, Role, Saved, Stages, Substitution, ToExpand, Undo,
+    ProgramStart, Report, Role, Stages, Substitution, ToExpand, Undo,
 };
 use sh_base::NoMemory;
 use sh_base::sequence::{Sequence, Text, copies_of};
@@ -11,19 +11,10 @@ use sh_base::shared::Shared;
 use sh_builtin_outcome::Completion;
 use sh_exec_machine::Undone;
 use sh_exec_parts::message::Piece;
-use sh_exec_parts::{Copying, Queue, copy_all};
+use sh_exec_parts::{Copying, Queue, Saved, copy_all};
 use sh_expand::Pending;
 use sh_syntax::tree::Command;
 use std::alloc::Global;
-
-impl Copying for Saved {
-    fn copy(&self, alloc: Global) -> Result<Saved, NoMemory> {
-        match self {
-            Saved::Variable(entry) => Ok(Saved::Variable(entry.copy()?)),
-            Saved::Absent(name) => Ok(Saved::Absent(name.copy(alloc)?)),
-        }
-    }
-}
 
 impl Copying for Role {
     fn copy(&self, alloc: Global) -> Result<Role, NoMemory> {

@@ -6,20 +6,21 @@ mod action;
 mod beginning;
 mod boxed;
 mod copying;
+mod for_loop;
 mod form;
 mod preparing;
 pub mod status;
 
 pub use action::{
     Action, Active, Case, CaseBranch, Expanded, ExpandedCommand, Finish, ForLoop, Launch, Move,
-    PipelineWait, ProgramStart, Report, Role, Saved, Stages, Substitution, ToExpand, Undo,
+    PipelineWait, ProgramStart, Report, Role, Stages, Substitution, ToExpand, Undo,
 };
 pub use beginning::Beginning;
 pub use boxed::Boxed;
+pub use for_loop::rest_of_series;
 pub use form::{Branches, Form, Frame, Loop};
 pub use preparing::{
-    begin_command, failing, first_place, go_ahead, no_undo, not_done, perform, prepare,
+    begin_command, failing, fatal_message, first_place, go_ahead, no_undo, not_done, perform,
+    prepare,
 };
-pub use sh_builtin_outcome::{BuiltinRest, Invocation, JobWait, Leave, TextOrigin, TextRun};
-pub use sh_expand::Pending;
 pub use status::CommandStatus;

@@ -1,6 +1,7 @@
 //! A simple command from its tree to its first place, and from its expanded words to what it does.
 ghost use Rattle.std.specs.Prelude.{◌≡◌, IfOk, [], option_map};
 ghost use Rattle.sh_builtin_environment.specs.Options.{options_and_operands};
+ghost use Rattle.sh_exec_actions.specs.Statuses as statuses;
 ghost use Rattle.sh_exec_actions.specs.Preparing.{ahead, command_role, exec_role, fields_of, fields_run, first_move, failing, failing_of, first_place, forks, nameless, no_undo, not_done, final_move, prepared_of, role_behind, role_by, role_run, role_of, staying, wants_of};
 
 use crate::action::{
@@ -13,7 +14,7 @@ use sh_base::shared::Shared;
 use sh_builtin_environment::parse_options;
 use sh_builtin_outcome::{Builtin, Functions, Invocation, behind_command};
 use sh_exec_parts::Queue;
-use sh_exec_parts::message::not_redirected;
+use sh_exec_parts::message::{Piece, not_redirected};
 use sh_exec_parts::redirection::prepared_redirections;
 use sh_exec_parts::simple::{
     assignments_of, has_redirects, has_words, items_of, redirect_count, split_fields,
@@ -22,6 +23,13 @@ use sh_kernel_descriptors::KernelFault;
 use sh_syntax::tree::Command;
 use sh_vars::Vars;
 use std::alloc::Global;
+
+/// An error that ends the shell (XCU 2.8.1), whose message is this. Takes no memory.
+pub fn fatal_message(piece: Piece) -> Active
+    ensures { result ≡ Active.Next (Action.Writing piece (Finish.Fault statuses.error)) }
+{
+    Active::Next(Action::Writing(piece, Finish::Fault(ERROR)))
+}
 
 /// A command that has changed nothing yet. Takes no memory.
 pub fn no_undo(alloc: Global, command: Shared<Command>) -> Undo

@@ -3,9 +3,9 @@ use Rattle.std.specs.Prelude.{ℕ, List, [], ◌∷◌, ◌++◌, not, ◌||◌,
 use Rattle.sh_exec_parts.specs.Messages.{fault_text, read_only}
 use Rattle.sh_exec_parts.specs.declared.simple.Assignment.{Assignment}
 use Rattle.sh_builtin_environment.specs.Variables.{may_set}
-use Rattle.sh_exec_command.specs.Expanding.{Turn, fatal, start_of}
-use Rattle.sh_exec_actions.specs.Preparing.{final_move}
-use Rattle.sh_exec_command.specs.Undoing.{saved_of}
+use Rattle.sh_exec_command.specs.Expanding.{Turn, start_of}
+use Rattle.sh_exec_actions.specs.Preparing.{fatal, final_move}
+use Rattle.sh_exec_parts.specs.Saving.{saved_of}
 use Rattle.sh_exec_command.specs.declared.assigning.Assigned.{Assigned}
 use Rattle.sh_exec_command.specs.declared.assigning.Assigned.TheVariants.{On, Over}
 use Rattle.sh_exec_actions.specs.declared.action.Expanded.TheVariants as expanded_as

@@ -4,7 +4,8 @@ use Rattle.std.specs.List.{flat_map}
 use Rattle.sh_exec_parts.specs.Messages.{fault_text}
 use Rattle.sh_exec_parts.specs.Simple.{Opened}
 use Rattle.sh_exec_command.specs.Assigning.{text_of}
-use Rattle.sh_exec_command.specs.Expanding.{Turn, fatal, start_of}
+use Rattle.sh_exec_command.specs.Expanding.{Turn, start_of}
+use Rattle.sh_exec_actions.specs.Preparing.{fatal}
 use Rattle.sh_exec_actions.specs.Statuses.{unexcused}
 use Rattle.sh_exec_actions.specs.declared.action.Active.{Active}
 use Rattle.sh_exec_actions.specs.declared.action.Active.TheVariants.{Next, Done}

@@ -2,18 +2,15 @@
 -- far.
 use Rattle.std.specs.Prelude.{ℕ, List, [], Bool, Option, Some, None}
 use Rattle.sh_builtin_shell.specs.Functions.{Named}
-use Rattle.sh_exec_actions.specs.Statuses as statuses
-use Rattle.sh_exec_parts.specs.Messages.{fault_text, message}
+use Rattle.sh_exec_parts.specs.Messages.{fault_text}
 use Rattle.sh_exec_parts.specs.Simple.{items_of}
 use Rattle.sh_exec_parts.specs.Wants.{wanted_of}
-use Rattle.sh_exec_actions.specs.Preparing.{first_move, prepared_of}
+use Rattle.sh_exec_actions.specs.Preparing.{fatal, first_move, prepared_of}
 use Rattle.sh_exec_actions.specs.declared.action.Active.{Active}
 use Rattle.sh_exec_actions.specs.declared.action.Active.TheVariants.{Next}
 use Rattle.sh_exec_actions.specs.declared.action.Expanded.{Expanded}
 use Rattle.sh_exec_actions.specs.declared.action.Expanded.TheVariants.{Need, Go}
-use Rattle.sh_exec_actions.specs.declared.action.Finish.TheVariants.{Fault}
 use Rattle.sh_exec_actions.specs.declared.action.Move.TheVariants.{At}
-use Rattle.sh_exec_actions.specs.declared.action.Action.TheVariants.{Writing}
 use Rattle.sh_exec_actions.specs.declared.action.ToExpand.TheVariants.{Words}
 use Rattle.sh_expand.specs.Answers.{Pending, fields_in}
 use Rattle.sh_expand.specs.Expanding as expanding
@@ -31,10 +28,6 @@ pub record Turn : Type 0 where
 abbrev pub start_of : Environment → List Wanted → Option Pending → Pending
 start_of env words None = record { words = words; start = env; answers = [] }
 start_of env words (Some pending) = pending
-
--- an error that ends the shell (2.8.1), once its message is written
-abbrev pub fatal : List ℕ → Active
-fatal text = Next (Writing (message text) (Fault statuses.error))
 
 -- what the words come to; what was assigned before a fault stays
 abbrev pub words_by : List Named → Command → (in_place : Bool) → (status : ℕ) → Pending → expanding.Result → Turn

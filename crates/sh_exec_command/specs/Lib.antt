@@ -5,4 +5,3 @@ pub mod Expanding
 pub mod Reading
 pub mod Redirects
 pub mod Series
-pub mod Undoing

@@ -3,8 +3,8 @@ use Rattle.std.specs.Prelude.{true, ℕ, List, [], map, Option}
 use Rattle.sh_exec_parts.specs.Messages.{fault_text}
 use Rattle.sh_exec_parts.specs.Redirections.{redirections_of}
 use Rattle.sh_exec_parts.specs.Simple.{Opened, compound_redirects, redirect_wanted}
-use Rattle.sh_exec_command.specs.Expanding.{Turn, fatal, start_of}
-use Rattle.sh_exec_actions.specs.Preparing.{ahead, no_undo}
+use Rattle.sh_exec_command.specs.Expanding.{Turn, start_of}
+use Rattle.sh_exec_actions.specs.Preparing.{fatal, ahead, no_undo}
 use Rattle.sh_exec_actions.specs.declared.action.Expanded.TheVariants.{Need, Go}
 use Rattle.sh_exec_actions.specs.declared.action.ExpandedCommand.{ExpandedCommand}
 use Rattle.sh_exec_actions.specs.declared.action.Move.TheVariants.{At}

@@ -3,7 +3,9 @@ use Rattle.std.specs.Prelude.{ℕ, List, [], ◌∷◌, map, Option, Some, None,
 use Rattle.sh_exec_parts.specs.Messages.{fault_text, read_only}
 use Rattle.sh_exec_parts.specs.Simple.{Opened, word_wanted}
 use Rattle.sh_builtin_environment.specs.Variables.{may_set}
-use Rattle.sh_exec_command.specs.Expanding.{Turn, fatal, start_of}
+use Rattle.sh_exec_command.specs.Expanding.{Turn, start_of}
+use Rattle.sh_exec_actions.specs.ForLoops.{rest_of_series}
+use Rattle.sh_exec_actions.specs.Preparing.{fatal}
 use Rattle.sh_exec_actions.specs.Statuses.{unexcused}
 use Rattle.sh_exec_actions.specs.declared.action.Active.{Active}
 use Rattle.sh_exec_actions.specs.declared.action.Active.TheVariants.{Next, Done}
@@ -50,14 +52,7 @@ header_of_command (layer.Function name body) = None
 unfoldable pub header_of : Command → Option Header
 header_of command = header_of_command (view.out-Command command)
 
--- ---- the next value, or the end with this status where none is left
-abbrev pub given_by : ForLoop → List (List ℕ) → CommandStatus → Active
-given_by series [] status = Done status
-given_by series (value ∷ values) status = Next (AssignLoopVariable series)
-
-abbrev pub rest_of_series : ForLoop → CommandStatus → Active
-rest_of_series series status = given_by series series.values status
-
+-- ---- the first value
 abbrev pub begun_with : List ℕ → List (List ℕ) → CompoundList → Active
 begun_with name values body = rest_of_series (record { name = name; values = values; body = body }) (unexcused 0)
 

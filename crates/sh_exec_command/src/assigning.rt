@@ -4,22 +4,24 @@ ghost use Rattle.sh_builtin_environment.specs.Variables.{may_set};
 ghost use Rattle.sh_exec_actions.specs.Statuses as statuses;
 ghost use Rattle.sh_exec_command.specs.Assigning.{assign_turn, assignments_turn, assigned_by, assigned_one, is_passing, is_undone, with_saved_variable, fatal_step, text_of, undo_with, value_start, value_step, with_assigned};
 ghost use Rattle.sh_exec_parts.specs.Messages.{fault_text};
-ghost use Rattle.sh_exec_command.specs.Expanding.{fatal};
+ghost use Rattle.sh_exec_actions.specs.Preparing.{fatal};
 ghost use Rattle.sh_expand.specs.Answers.{fields_in};
 ghost use Rattle.sh_expand.specs.Pendings.{IsKept, result_of};
 
-use crate::expanding::{expand, fatal_message};
-use crate::undo::save;
+use crate::expanding::expand;
 use sh_base::NoMemory;
 use sh_base::sequence::{Sequence, Text};
 use sh_base::shared::Shared;
 use sh_builtin_environment::{may_set, set_variable};
 use sh_exec_actions::{
-    Action, Active, Expanded, ExpandedCommand, Finish, Move, Pending, Role, ToExpand, Undo, perform,
+    Action, Active, Expanded, ExpandedCommand, Finish, Move, Role, ToExpand, Undo, fatal_message,
+    perform,
 };
 use sh_exec_parts::message::{Piece, not_expanded, read_only};
+use sh_exec_parts::save;
 use sh_exec_parts::simple::Assignment;
-use sh_expand::{Context, Fault, Progress, Wanted};
+use sh_expand::{Pending, Progress, Wanted};
+use sh_expand_parts::{Context, Fault};
 use sh_files::Files;
 use sh_syntax::tree::{CompoundList, Parts};
 use sh_vars::{Vars, VarsFault};

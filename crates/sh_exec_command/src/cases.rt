@@ -13,11 +13,10 @@ use crate::expanding::{expand, fail};
 use sh_base::NoMemory;
 use sh_base::sequence::{Sequence, Text};
 use sh_base::shared::Shared;
-use sh_exec_actions::{
-    Action, Active, Case, CaseBranch, CommandStatus, Expanded, Move, Pending, ToExpand,
-};
+use sh_exec_actions::{Action, Active, Case, CaseBranch, CommandStatus, Expanded, Move, ToExpand};
 use sh_exec_parts::Queue;
-use sh_expand::{Context, PatternProgress, Progress, Wanted};
+use sh_expand::{PatternProgress, Pending, Progress, Wanted};
+use sh_expand_parts::Context;
 use sh_files::Files;
 use sh_pattern::{PatternByte, matches};
 use sh_syntax::tree::{CaseItem, Command, CompoundForm, CompoundList, Parts, Word};

@@ -1,11 +1,10 @@
 //! The expansion turn of a simple command's words.
 ghost use Rattle.std.specs.Prelude.{◌≡◌, IfOk};
-ghost use Rattle.sh_exec_actions.specs.Statuses as statuses;
 ghost use Rattle.sh_exec_parts.specs.Messages.{fault_text};
 ghost use Rattle.sh_exec_parts.specs.Simple.{items_of};
 ghost use Rattle.sh_exec_parts.specs.Wants.{wanted_of};
-ghost use Rattle.sh_exec_command.specs.Expanding.{fatal, start_of, words_turn};
-ghost use Rattle.sh_exec_actions.specs.Preparing.{first_move, prepared_of};
+ghost use Rattle.sh_exec_command.specs.Expanding.{start_of, words_turn};
+ghost use Rattle.sh_exec_actions.specs.Preparing.{fatal, first_move, prepared_of};
 ghost use Rattle.sh_expand.specs.Answers.{fields_in};
 ghost use Rattle.sh_expand.specs.Pendings.{IsKept, result_of};
 
@@ -13,14 +12,14 @@ use sh_base::NoMemory;
 use sh_base::sequence::{Sequence, Text};
 use sh_base::shared::Shared;
 use sh_builtin_shell::Functions;
-use sh_exec_actions::status::ERROR;
 use sh_exec_actions::{
-    Action, Active, Expanded, Finish, Move, Pending, ToExpand, begin_command, prepare,
+    Action, Active, Expanded, Move, ToExpand, begin_command, fatal_message, prepare,
 };
-use sh_exec_parts::message::{Piece, not_expanded};
+use sh_exec_parts::message::not_expanded;
 use sh_exec_parts::simple::items_of;
 use sh_exec_parts::wanted::wanted_of;
-use sh_expand::{Fault, Progress, Wanted};
+use sh_expand::{Pending, Progress, Wanted};
+use sh_expand_parts::Fault;
 use sh_files::Files;
 use sh_syntax::tree::Command;
 use sh_vars::Vars;
@@ -42,13 +41,6 @@ pub(crate) fn expand(
         Some(waiting) => Ok(waiting.resume(alloc, vars, files)?),
         None => Ok(Pending::begin(alloc, wanted, vars, files)?),
     }
-}
-
-/// An error that ends the shell (XCU 2.8.1), whose message is this. Takes no memory.
-pub fn fatal_message(piece: Piece) -> Active
-    ensures { result ≡ Active.Next (Action.Writing piece (Finish.Fault statuses.error)) }
-{
-    Active::Next(Action::Writing(piece, Finish::Fault(ERROR)))
 }
 
 /// What the words of a command and of its redirections come to.

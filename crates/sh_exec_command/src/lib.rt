@@ -10,14 +10,12 @@ mod found;
 mod reading;
 mod redirects;
 mod series;
-mod undo;
 
 pub use assigning::assign_turn;
 pub use cases::{case_turn, pattern_turn};
 pub use defining::define_turn;
-pub use expanding::{fatal_message, words_turn};
+pub use expanding::words_turn;
 pub use found::{Found, InputFound};
 pub use reading::{find_command, find_input};
 pub use redirects::redirects_turn;
-pub use series::{Round, give_turn, rest_of_series, series_turn};
-pub use undo::restore_variables;
+pub use series::{Round, give_turn, series_turn};

@@ -4,11 +4,12 @@ ghost use Rattle.sh_parse.specs.Reading.{reading};
 ghost use Rattle.sh_exec_command.specs.Reading.{answer_of, input_by, input_found, next_command};
 
 use crate::found::{Answer, Found, InputFound};
+use sh_aliases::Aliases;
 use sh_base::NoMemory;
 use sh_base::sequence::Text;
 use sh_exec_parts::Rest;
 use sh_exec_parts::message::Refusal;
-use sh_parse::{Aliases, ParseFault, Reading, read_command};
+use sh_parse::{ParseFault, Reading, read_command};
 use std::alloc::Global;
 
 /// One reading of a text that is there whole.

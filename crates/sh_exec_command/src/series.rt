@@ -4,17 +4,20 @@ ghost use Rattle.sh_exec_command.specs.Expanding.{start_of};
 ghost use Rattle.sh_syntax.specs.declared.tree.Command.TheViews as view;
 ghost use Rattle.sh_exec_actions.specs.declared.action.Expanded.TheVariants.{Go};
 ghost use Rattle.sh_exec_actions.specs.declared.action.Move.TheVariants.{At};
-ghost use Rattle.sh_exec_command.specs.Series.{begun_with, give_by, give_turn, rest_of_series, header_in, header_of, header_turn, series_from, series_turn, values_turn, word_of_series};
+ghost use Rattle.sh_exec_command.specs.Series.{begun_with, give_by, give_turn, header_in, header_of, header_turn, series_from, series_turn, values_turn, word_of_series};
 
-use crate::expanding::{expand, fail, fatal_message};
+use crate::expanding::{expand, fail};
 use sh_base::NoMemory;
 use sh_base::sequence::{Sequence, Text, copies_of};
 use sh_base::shared::Shared;
 use sh_builtin_environment::{may_set, set_variable};
-use sh_exec_actions::{Action, Active, CommandStatus, Expanded, ForLoop, Move, Pending, ToExpand};
+use sh_exec_actions::{
+    Action, Active, CommandStatus, Expanded, ForLoop, Move, ToExpand, fatal_message, rest_of_series,
+};
 use sh_exec_parts::Queue;
 use sh_exec_parts::message::read_only;
-use sh_expand::{Context, Progress, Wanted};
+use sh_expand::{Pending, Progress, Wanted};
+use sh_expand_parts::Context;
 use sh_files::Files;
 use sh_syntax::tree::{Command, CompoundForm, CompoundList, Name, Word};
 use sh_vars::Vars;
@@ -100,16 +103,6 @@ fn header_of(alloc: Global, command: &Command) -> Result<Option<Header>, NoMemor
         Command::Compound(compound) => header_in(alloc, &compound.get().form),
         Command::Function { .. } => Ok(None),
     }
-}
-
-/// What a `for` goes on with: its next value, or its end, with this status, where none is left. Takes no memory.
-pub fn rest_of_series(series: ForLoop, status: CommandStatus) -> Active
-    ensures { result ≡ rest_of_series series status }
-{
-    if series.values.is_empty() {
-        return Active::Done(status);
-    }
-    Active::Next(Action::AssignLoopVariable(series))
 }
 
 /// What a `for` does first whose values are these.

@@ -1,2 +1,4 @@
-pub mod Built
-pub mod Outward
+pub mod Alone
+pub mod Entered
+pub mod Framed
+pub mod Inside

@@ -1,21 +1,18 @@
-//! What a shell's process runs, as a stack of running forms: what a form becomes when what runs inside it is done.
+//! The running forms of a shell round the place where it acts, as a stack: what holds inside them, and how commands are entered, inward to
+//! their first place.
 #![tactic(auto)]
 
-mod acting;
-mod forms;
-mod input;
-mod loops;
+mod bodies;
+mod entering;
+mod frames;
+mod job_text;
+mod kinds;
+mod moves;
+mod step;
 
-pub use forms::settle;
-pub use input::goes_on_reading;
-pub use sh_exec_actions::Leave;
-pub use sh_exec_command::{
-    Found, InputFound, Round, assign_turn, case_turn, define_turn, fatal_message, find_command,
-    find_input, give_turn, pattern_turn, redirects_turn, series_turn, words_turn,
-};
-pub use sh_exec_entering::{Frames, body_of, enter, enter_list, go_to, list_body, stage};
-pub use sh_exec_requests::{
-    after_write, answer_turn, ask_turn, finish_drop, heed_own_signals, input_action, is_dropping,
-    is_interrupt_next, job_wait_turn, most_read, pending_action, pending_signal, prompt_turn,
-    release_own_signals, take_terminal_back, wait_turn,
-};
+pub use bodies::{body_of, list_body, stage};
+pub use entering::{enter, enter_command, enter_inside, enter_joined, enter_list};
+pub use frames::Frames;
+pub use kinds::MOST_LEVELS;
+pub use moves::go_to;
+pub use step::Step;

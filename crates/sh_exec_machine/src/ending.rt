@@ -4,7 +4,8 @@ ghost use Rattle.sh_kernel.specs.Calls.{end_call};
 ghost use Rattle.sh_kernel.specs.State.{KernelState, StandsAt};
 
 use sh_base::NoMemory;
-use sh_kernel::{Kernel, KernelFault};
+use sh_kernel::Kernel;
+use sh_kernel_descriptors::KernelFault;
 
 /// Ends a process with a status (XSH _exit). Where none of this number lives nothing happens. The only error is want of
 /// memory, after which nothing has happened either.

@@ -6,7 +6,8 @@ ghost use Rattle.sh_exec_machine.specs.Forking.{HasForked, HasLaid, after_close,
 use crate::redirecting::open;
 use sh_base::NoMemory;
 use sh_exec_parts::redirection::TO_READ;
-use sh_kernel::{DescriptorRef, Kernel, KernelFault};
+use sh_kernel::Kernel;
+use sh_kernel_descriptors::{DescriptorRef, KernelFault};
 
 /// The number at which a new process finds the end of a pipe to read from, until it is moved to 0.
 const READ_END: u8 = 10;

@@ -9,7 +9,8 @@ use crate::undone::Undone;
 use sh_base::NoMemory;
 use sh_exec_parts::redirection::{Action, Redirection};
 use sh_files::Opening;
-use sh_kernel::{DescriptorRef, Kernel, KernelFault};
+use sh_kernel::Kernel;
+use sh_kernel_descriptors::{DescriptorRef, KernelFault};
 
 /// What a redirection answers.
 #[derive(Clone, Copy, Debug)]

@@ -7,7 +7,8 @@ ghost use Rattle.sh_exec_machine.specs.Transfers.{HasGiven, HasTaken, give_bytes
 
 use sh_base::NoMemory;
 use sh_base::sequence::Text;
-use sh_kernel::{DescriptorRef, Kernel, KernelFault};
+use sh_kernel::Kernel;
+use sh_kernel_descriptors::{DescriptorRef, KernelFault};
 use std::alloc::Global;
 
 /// What a read gave.

@@ -7,7 +7,8 @@ ghost use Rattle.sh_exec_machine.specs.Undoing.{after_redirection, after_redirec
 
 use crate::undone::Undone;
 use sh_base::sequence::Sequence;
-use sh_kernel::{DescriptorRef, Kernel};
+use sh_kernel::Kernel;
+use sh_kernel_descriptors::DescriptorRef;
 
 /// The number that a descriptor has while it is closed. No redirection has a number above 9.
 const CLOSING: u8 = 10;

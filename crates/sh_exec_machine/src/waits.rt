@@ -3,7 +3,8 @@ ghost use Rattle.std.specs.Prelude.{◌≡◌};
 ghost use Rattle.sh_kernel.specs.State.{KernelState, StandsAt};
 ghost use Rattle.sh_exec_machine.specs.Waits.{last_of, number_of, signal_status, wait_status};
 
-use sh_kernel::{Kernel, Status};
+use sh_kernel::Kernel;
+use sh_kernel_processes::Status;
 
 /// A process isn't known.
 const UNKNOWN: u8 = 127;

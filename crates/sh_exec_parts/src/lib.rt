@@ -11,6 +11,7 @@ mod pipeline;
 mod queue;
 pub mod redirection;
 mod rest;
+mod saved;
 pub mod simple;
 pub mod wanted;
 
@@ -19,3 +20,4 @@ pub use environment::script_environment;
 pub use pipeline::{commands_of, is_negated};
 pub use queue::Queue;
 pub use rest::Rest;
+pub use saved::{Saved, restore_variables, save};

@@ -1,13 +1,14 @@
 -- A shell's tree and the list of the forms round its place.
 use Rattle.std.proofs.Common.{◌≡◌, ◌<◌, ◌≤◌, arith, length, List, [], ◌∷◌, Option, reverse, refl, sym, ap, subst, ◌∙◌}
-use Rattle.std.proofs.lemmas.List.{length-reverse}
+use Rattle.std.proofs.lemmas.List.{length-reverse, reverse-reverse}
 use Rattle.sh_builtin_shell.specs.declared.shell.Shell.{Shell}
 use Rattle.sh_exec_actions.specs.declared.action.Active.{Active}
 use Rattle.sh_exec_turns.specs.Forms.{Acted, IsActed, at_action, outward}
-use Rattle.sh_exec_turns.specs.Stacks.{forms_round, path_of, run_in, run_of}
-use Rattle.sh_exec_turns.specs.Frames.{framed, is_failure_ignored}
-use Rattle.sh_exec_turns.specs.Running.{InterpreterState, Run, At, In, active_of, with_active}
+use Rattle.sh_exec_forms.specs.Stacks.{forms_round, path_of, run_in, run_of}
+use Rattle.sh_exec_forms.specs.Frames.{forms_in, framed, is_failure_ignored}
+use Rattle.sh_exec_forms.specs.Running.{InterpreterState, Run, At, In, active_of, with_active}
 use Rattle.sh_exec_actions.specs.declared.form.Form.{Form}
+use Rattle.sh_exec_actions.specs.declared.form.Frame.{Frame}
 use Rattle.sh_exec_turns.proofs.Outward.{by_forms}
 use Rattle.sh_exec_shell.specs.Forks.{IsTurned, Turned, inherited}
 use Rattle.sh_exec_shell.specs.Reduction.{act_at, at_root, drop_first, reduce, shell_turn, turn_from, with_root}
@@ -35,6 +36,20 @@ path_in (form ∷ forms) run = path_in forms (In form run)
 
 pub path_within : (forms : List Form) (active : Active) → path_of (run_of forms active) ≡ forms
 path_within forms active = path_in forms (At active)
+
+-- frames with the active place are the whole tree
+forms_framed : (forms : List Form) → forms_in (framed forms) ≡ forms
+forms_framed [] = refl
+forms_framed (form ∷ forms) = ap (λ these. form ∷ these) (forms_framed forms)
+
+pub tree_within : (frames : List Frame) (forms : List Form) (active : Active) (run : Run)
+    → frames ≡ reverse (framed forms) → run ≡ run_of forms active → run_of (forms_in (reverse frames)) (active_of run) ≡ run
+tree_within frames forms active run e r =
+    ap (λ these. run_of (forms_in (reverse these)) (active_of run)) e
+    ∙ ap (λ these. run_of (forms_in these) (active_of run)) (reverse-reverse (framed forms))
+    ∙ ap (λ these. run_of these (active_of run)) (forms_framed forms)
+    ∙ ap (run_of forms) (ap active_of r ∙ active_within forms active)
+    ∙ sym r
 
 -- with a form round it nothing is at the root
 rooted : (shell : Shell) (form : Form) (forms : List Form) (run : Run) → at_root shell (run_in forms (In form run)) ≡ run_in forms (In form run)

@@ -1,3 +1,2 @@
 pub mod Extending
 pub mod Frames
-pub use Rattle.sh_exec_turns.proofs.Outward

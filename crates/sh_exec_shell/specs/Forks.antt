@@ -3,14 +3,13 @@ use Rattle.std.specs.Prelude.{◌≡◌, ℕ, List, [], ◌∷◌, ◌++◌, Boo
 use Rattle.sh_builtin_shell.specs.Shells.{after_launch, forked_shell, has_job_control, is_interactive, last_of}
 use Rattle.sh_builtin_shell.specs.declared.shell.Shell.{Shell}
 use Rattle.sh_exec_parts.specs.Messages.{cannot_fork, launch_line}
-use Rattle.sh_exec_turns.specs.Expanding.{fatal}
-use Rattle.sh_exec_actions.specs.Preparing.{ahead}
+use Rattle.sh_exec_actions.specs.Preparing.{fatal, ahead}
 use Rattle.sh_exec_actions.specs.Statuses.{unexcused}
 use Rattle.sh_exec_actions.specs.declared.action.Active.{Active}
 use Rattle.sh_exec_actions.specs.declared.action.Active.TheVariants.{Done, Next}
 use Rattle.sh_exec_actions.specs.declared.action.Move.{Move}
 use Rattle.sh_exec_actions.specs.declared.action.Move.TheVariants as move
-use Rattle.sh_exec_actions.specs.Answers.{Pending}
+use Rattle.sh_expand.specs.Answers.{Pending}
 use Rattle.sh_exec_actions.specs.declared.action.Action.TheVariants.{ReadSubstitution, ForkStage, Writing}
 use Rattle.sh_exec_actions.specs.declared.action.ExpandedCommand.{ExpandedCommand}
 use Rattle.sh_exec_actions.specs.declared.action.Finish.TheVariants.{Status}
@@ -25,15 +24,15 @@ use Rattle.sh_exec_turns.specs.Forms.{Acted, with_run}
 use Rattle.sh_exec_turns.specs.Acting.{in_forms}
 use Rattle.sh_exec_turns.specs.Groups.{behind_fork, released_fork}
 use Rattle.sh_exec_actions.specs.declared.form.Form.{Form}
-use Rattle.sh_exec_turns.specs.Bodies.{body_of, stage_run}
-use Rattle.sh_exec_turns.specs.Entering.{and_or_run}
-use Rattle.sh_exec_turns.specs.Moves.{move_run}
-use Rattle.sh_exec_turns.specs.Stacks.{run_in}
-use Rattle.sh_exec_turns.specs.Frames.{root_forms}
-use Rattle.sh_exec_turns.specs.JobTexts.{job_text}
+use Rattle.sh_exec_forms.specs.Bodies.{body_of, stage_run}
+use Rattle.sh_exec_forms.specs.Entering.{and_or_run}
+use Rattle.sh_exec_forms.specs.Moves.{move_run}
+use Rattle.sh_exec_forms.specs.Stacks.{run_in}
+use Rattle.sh_exec_forms.specs.Frames.{root_forms}
+use Rattle.sh_exec_forms.specs.JobTexts.{job_text}
 use Rattle.sh_exec_turns.specs.Waiting.{waiting}
 use Rattle.sh_jobs.specs.Table.{free_number}
-use Rattle.sh_exec_turns.specs.Running.{InterpreterState, Run, At}
+use Rattle.sh_exec_forms.specs.Running.{InterpreterState, Run, At}
 use Rattle.sh_kernel.specs.State.{KernelKept, KernelState, StandsAt}
 use Rattle.sh_syntax.specs.Text.{and_or_tokens}
 use Rattle.sh_syntax.specs.Tokens.{text_of}
@@ -177,12 +176,8 @@ list_turn s shell list =
 -- ---- a command substitution (2.6.3)
 -- where it can't have a process, what the command changed is undone after the message
 abbrev pub fork_failure : ToExpand → Move
-fork_failure (Words command in_place status) = move.At (fatal cannot_fork)
 fork_failure (Values p) = move.Held p.undo (fatal cannot_fork)
-fork_failure (Redirects command) = move.At (fatal cannot_fork)
-fork_failure (ForWords command) = move.At (fatal cannot_fork)
-fork_failure (CaseWord command) = move.At (fatal cannot_fork)
-fork_failure (CasePattern case) = move.At (fatal cannot_fork)
+fork_failure _ = move.At (fatal cannot_fork)
 
 abbrev pub substitution_by : KernelState → Shell → CompoundList → Substitution → Option ℕ → Turned
 substitution_by s shell program substitution (Some pid) =

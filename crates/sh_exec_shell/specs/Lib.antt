@@ -1,12 +1,9 @@
 pub mod Forks
 pub mod Reduction
-pub use Rattle.sh_exec_turns.specs.Acting
-pub use Rattle.sh_exec_turns.specs.Builtins
-pub use Rattle.sh_exec_turns.specs.Codes
-pub use Rattle.sh_exec_turns.specs.Forms
-pub use Rattle.sh_exec_turns.specs.Groups
-pub use Rattle.sh_exec_turns.specs.Input
-pub use Rattle.sh_exec_turns.specs.Running
+pub use Rattle.sh_exec_forms.specs.Codes
+pub use Rattle.sh_exec_forms.specs.Frames
+pub use Rattle.sh_exec_forms.specs.Running
+-- of sh_exec_signals
 pub use Rattle.sh_exec_turns.specs.Signals
-pub use Rattle.sh_exec_turns.specs.Stacks
+pub use Rattle.sh_exec_forms.specs.Stacks
 pub use Rattle.sh_exec_turns.specs.Traps

@@ -1,7 +1,7 @@
 -- One turn of a shell: inward to its active place, the action there, and outward again.
 use Rattle.std.specs.Prelude.{ℕ, List, [], ◌∷◌, Option, Some, None, if◌then◌else◌}
 use Rattle.sh_exec_turns.specs.Expanding.{Turn}
-use Rattle.sh_exec_turns.specs.Outcomes.{shell_status}
+use Rattle.sh_builtin_outcome.specs.Outcomes.{shell_status}
 use Rattle.sh_builtin_shell.specs.declared.shell.Shell.{Shell}
 use Rattle.sh_exec_turns.specs.Reading.{next_command}
 use Rattle.sh_exec_turns.specs.Series.{give_turn}
@@ -22,13 +22,13 @@ use Rattle.sh_exec_turns.specs.Input.{input_turn}
 use Rattle.sh_exec_turns.specs.Traps.{drops_before, interruption, trap_before}
 use Rattle.sh_exec_shell.specs.Forks.{Turned, fork_turn, inheriting, list_turn, stage_turn, substitute_turn}
 use Rattle.sh_exec_turns.specs.Forms.{Acted, with_run, after, at_action, goes_on_reading}
-use Rattle.sh_exec_turns.specs.Moves.{move_run}
-use Rattle.sh_exec_turns.specs.Frames.{ends_shell, is_failure_ignored}
+use Rattle.sh_exec_forms.specs.Moves.{move_run}
+use Rattle.sh_exec_forms.specs.Frames.{ends_shell, is_failure_ignored}
 use Rattle.sh_exec_actions.specs.declared.form.Form.{Form}
 use Rattle.sh_exec_actions.specs.declared.form.Form.TheVariants.{Text, Input}
-use Rattle.sh_exec_turns.specs.Running.{Run, At, In, InterpreterState, active_of}
-use Rattle.sh_exec_turns.specs.Stacks.{path_of, run_in, run_of}
-use Rattle.sh_exec_turns.specs.Leave.TheVariants as leave
+use Rattle.sh_exec_forms.specs.Running.{Run, At, In, InterpreterState, active_of}
+use Rattle.sh_exec_forms.specs.Stacks.{path_of, run_in, run_of}
+use Rattle.sh_builtin_outcome.specs.declared.outcome.Leave.TheVariants as leave
 use Rattle.sh_kernel.specs.State.{KernelState}
 
 abbrev pub plain : Acted → Turned
@@ -115,24 +115,9 @@ dropped = At (Leaving (leave.Fault dropped_status))
 
 abbrev pub dropped_run : Action → Run
 dropped_run (Reading rest status) = In (Text rest) dropped
-dropped_run (Prompting beginning) = dropped
 dropped_run (ReadInput beginning) = In (Input []) dropped
-dropped_run (Expanding wants pending) = dropped
-dropped_run (ReadSubstitution substitution) = dropped
-dropped_run (WaitSubstitution substitution) = dropped
-dropped_run (Asking rest) = dropped
-dropped_run (WaitForJob wait) = dropped
-dropped_run (Redirecting p) = dropped
-dropped_run (Forking p) = dropped
-dropped_run (Starting start) = dropped
-dropped_run (ForkStage stages) = dropped
-dropped_run (ForkList list) = dropped
-dropped_run (AssignLoopVariable series) = dropped
-dropped_run (Defining definition) = dropped
-dropped_run (Waiting wait) = dropped
-dropped_run (Writing piece finish) = dropped
 dropped_run (Trapping status) = At (Next (Trapping status))
-dropped_run (Ending status) = dropped
+dropped_run _ = dropped
 
 unfoldable pub drop_at : KernelState → Shell → (around : List Form) → Action → Acted
 drop_at s shell around place =

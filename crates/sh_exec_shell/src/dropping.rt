@@ -1,16 +1,18 @@
 //! INT has an interactive shell drop what it does.
 ghost use Rattle.std.specs.Prelude.{◌≡◌, [], IfOk};
 ghost use Rattle.sh_exec_turns.specs.Forms.{IsActed};
-ghost use Rattle.sh_exec_turns.specs.Stacks.{run_in, run_of};
+ghost use Rattle.sh_exec_forms.specs.Stacks.{run_in, run_of};
 ghost use Rattle.sh_exec_shell.specs.Reduction.{drop_at, drop_first, dropped_run};
 ghost use Rattle.sh_kernel.specs.State.{KernelState, StandsAt};
 
 use crate::interpreter::root;
 use sh_base::NoMemory;
 use sh_base::sequence::Text;
+use sh_builtin_outcome::Leave;
 use sh_builtin_shell::Shell;
 use sh_exec_actions::{Action, Active, Form};
-use sh_exec_turns::{Frames, Leave, drops_before, finish_drop, settle};
+use sh_exec_forms::Frames;
+use sh_exec_turns::{drops_before, finish_drop, settle};
 use sh_kernel::Kernel;
 use std::alloc::Global;
 

@@ -3,18 +3,18 @@ ghost use Rattle.std.specs.Prelude.{◌≡◌, ◌++◌, ◌∷◌, [], IfOk, Li
 ghost use Rattle.sh_kernel.specs.State.{KernelState, StandsAt};
 ghost use Rattle.sh_builtin_shell.specs.Shells.{forked_shell, has_job_control};
 ghost use Rattle.sh_exec_parts.specs.Messages as messages;
-ghost use Rattle.sh_exec_turns.specs.Expanding as expanding;
+ghost use Rattle.sh_exec_actions.specs.Preparing.{fatal};
 ghost use Rattle.sh_exec_actions.specs.Preparing.{ahead};
 ghost use Rattle.sh_exec_actions.specs.Statuses.{unexcused};
 ghost use Rattle.sh_exec_machine.specs.Forking.{HasForked, HasLaid, fork_of, null_laid};
 ghost use Rattle.sh_exec_shell.specs.Forks.{IsTurned, begun_substitution, child_of, background_input, launched, launched_by, place_of_none, fork_turn, in_process, inherited, inheriting, inside, is_foreground, is_more, job_of, launch_by, list_by, list_turn, made_place, made_shell, program_by, stage_by, stage_from, stage_input, stage_one, stage_shell, stage_turn, stage_place, substitute_turn, substitution_by, with_child, with_job, fork_failure};
 ghost use Rattle.sh_exec_turns.specs.Groups.{behind_fork, released_fork};
-ghost use Rattle.sh_exec_turns.specs.Bodies.{body_of, stage_run};
-ghost use Rattle.sh_exec_turns.specs.Entering.{and_or_run};
-ghost use Rattle.sh_exec_turns.specs.Moves.{move_run};
-ghost use Rattle.sh_exec_turns.specs.Running.{Run};
-ghost use Rattle.sh_exec_turns.specs.Stacks.{run_in, run_of};
-ghost use Rattle.sh_exec_turns.specs.Frames.{is_failure_ignored, root_forms};
+ghost use Rattle.sh_exec_forms.specs.Bodies.{body_of, stage_run};
+ghost use Rattle.sh_exec_forms.specs.Entering.{and_or_run};
+ghost use Rattle.sh_exec_forms.specs.Moves.{move_run};
+ghost use Rattle.sh_exec_forms.specs.Running.{Run};
+ghost use Rattle.sh_exec_forms.specs.Stacks.{run_in, run_of};
+ghost use Rattle.sh_exec_forms.specs.Frames.{is_failure_ignored, root_forms};
 ghost use Rattle.sh_exec_turns.specs.Waiting.{waiting};
 ghost use Rattle.sh_jobs.specs.Table.{free_number};
 
@@ -24,15 +24,15 @@ use sh_base::sequence::{Sequence, Text};
 use sh_base::shared::Shared;
 use sh_builtin_shell::Shell;
 use sh_exec_actions::{
-    Action, Active, Boxed, CommandStatus, ExpandedCommand, Finish, Launch, Move, Pending,
-    PipelineWait, Stages, Substitution, ToExpand, go_ahead,
+    Action, Active, Boxed, CommandStatus, ExpandedCommand, Finish, Launch, Move, PipelineWait,
+    Stages, Substitution, ToExpand, fatal_message, go_ahead,
 };
+use sh_exec_forms::{Frames, body_of, go_to, list_body, stage};
 use sh_exec_machine::{Forked, fork_process, lay_null_input};
 use sh_exec_parts::message::{cannot_fork, launch_line};
 use sh_exec_parts::{Copying, Queue};
-use sh_exec_turns::{
-    Frames, body_of, fatal_message, go_to, list_body, release, settle_fork, stage,
-};
+use sh_exec_turns::{release, settle_fork};
+use sh_expand::Pending;
 use sh_kernel::Kernel;
 use sh_syntax::text::command_text;
 use sh_syntax::tree::{AndOr, Command, CompoundList};
@@ -41,7 +41,7 @@ use std::slice;
 
 /// No process can be made.
 fn refused(alloc: Global) -> Result<Active, NoMemory>
-    ensures { IfOk result (λ active. active ≡ expanding.fatal messages.cannot_fork) }
+    ensures { IfOk result (λ active. active ≡ fatal messages.cannot_fork) }
 {
     let piece = cannot_fork(alloc)?;
     Ok(fatal_message(piece))

@@ -1,13 +1,13 @@
 //! What interprets commands in a process.
-ghost use Rattle.std.specs.Prelude.{◌≡◌, IfOk, OnOk};
+ghost use Rattle.std.specs.Prelude.{◌≡◌, IfOk, OnOk, reverse};
 ghost use Rattle.sh_kernel.specs.State.{KernelState, StandsAt};
 ghost use Rattle.sh_tty.specs.Terminal.{Extends};
 ghost use Rattle.sh_exec_turns.specs.Acting.{ending};
 ghost use Rattle.sh_exec_shell.specs.Forks.{IsTurned};
 ghost use Rattle.sh_exec_shell.specs.Reduction.{at_root, reduce, shell_turn, with_root};
-ghost use Rattle.sh_exec_turns.specs.Stacks.{frames_of, path_of, run_of};
-ghost use Rattle.sh_exec_turns.specs.Frames.{framed};
-ghost use Rattle.sh_exec_turns.specs.Running.{Run, active_of, with_active};
+ghost use Rattle.sh_exec_forms.specs.Stacks.{frames_of, path_of, run_of};
+ghost use Rattle.sh_exec_forms.specs.Frames.{forms_in, framed};
+ghost use Rattle.sh_exec_forms.specs.Running.{Run, active_of, with_active};
 
 use crate::dropping::drop_first;
 use crate::turn::reduce;
@@ -15,8 +15,8 @@ use sh_base::NoMemory;
 use sh_base::sequence::Text;
 use sh_builtin_shell::Shell;
 use sh_exec_actions::{Action, Active, Boxed, CommandStatus, Frame};
+use sh_exec_forms::Frames;
 use sh_exec_parts::{Copying, Rest};
-use sh_exec_turns::Frames;
 use sh_kernel::Kernel;
 use sh_signal::Condition;
 use std::alloc::Global;
@@ -47,9 +47,9 @@ impl Drop for Interpreter {
 impl Model for Interpreter {
     ghost use Rattle.std.specs.Coded.{codes};
     ghost use Rattle.sh_vars.specs.Codes.{map_code};
-    ghost use Rattle.sh_exec_turns.specs.Codes.{run_code};
-    ghost use Rattle.sh_exec_turns.specs.Running.{InterpreterState};
-    ghost use Rattle.sh_exec_turns.specs.Stacks.{run_of};
+    ghost use Rattle.sh_exec_forms.specs.Codes.{run_code};
+    ghost use Rattle.sh_exec_forms.specs.Running.{InterpreterState};
+    ghost use Rattle.sh_exec_forms.specs.Stacks.{run_of};
     ghost use Rattle.sh_aliases.specs.contracts.alias.Alias as alias_row;
     ghost use Rattle.sh_syntax.specs.contracts.tree.Command as command_row;
 
@@ -146,11 +146,12 @@ impl Interpreter {
         &self.active
     }
 
-    /// The running forms round its active place, the outermost first, each with whether a failure inside it is ignored. Takes
-    /// no memory.
+    /// The running forms round its active place, the outermost first, each with whether a failure inside it is ignored. With
+    /// that place they are the whole of what it runs. Takes no memory.
     #[tactic(auto, using(crate::proofs::Frames::path_within))]
     pub fn frames(&self) -> &[Frame]
-        ensures { result.now ≡ frames_of self.now.run }
+        ensures frames { result.now ≡ frames_of self.now.run }
+        ensures tree { run_of (forms_in (reverse result.now)) (active_of self.now.run) ≡ self.now.run }
     {
         self.frames.as_slice()
     }

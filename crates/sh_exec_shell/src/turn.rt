@@ -8,24 +8,24 @@ ghost use Rattle.sh_exec_turns.specs.Acting.{defined, expand_turn, given_round, 
 ghost use Rattle.sh_exec_shell.specs.Forks.{IsTurned, inheriting, inside};
 ghost use Rattle.sh_exec_shell.specs.Reduction.{act_at, act_behind, act_place, expanded_by, expansion, plain, reduce};
 ghost use Rattle.sh_exec_turns.specs.Traps.{trap_before};
-ghost use Rattle.sh_exec_turns.specs.Running.{Run};
-ghost use Rattle.sh_exec_turns.specs.Stacks.{run_in, run_of};
-ghost use Rattle.sh_exec_turns.specs.Frames.{is_failure_ignored};
+ghost use Rattle.sh_exec_forms.specs.Running.{Run};
+ghost use Rattle.sh_exec_forms.specs.Stacks.{run_in, run_of};
+ghost use Rattle.sh_exec_forms.specs.Frames.{is_failure_ignored};
 
 use crate::forks::{fork_turn, list_turn, stage_turn, substitute_turn};
 use crate::interpreter::Interpreter;
 use sh_base::NoMemory;
 use sh_base::shared::Shared;
 use sh_builtin_shell::{Functions, Shell};
-use sh_exec_actions::{
-    Action, Active, Boxed, CommandStatus, Expanded, ForLoop, Form, Pending, ToExpand,
-};
+use sh_exec_actions::{Action, Active, Boxed, CommandStatus, Expanded, ForLoop, Form, ToExpand};
+use sh_exec_forms::{Frames, enter_list, go_to};
 use sh_exec_turns::{
-    Frames, Round, answer_turn, ask_turn, assign_turn, case_turn, collect_turn, define_turn,
-    end_turn, enter_list, give_turn, go_to, goes_on_reading, input_turn, interrupt, job_wait_turn,
-    pattern_turn, prompt_turn, read, redirect_turn, redirects_turn, series_turn, settle, trap,
-    trap_before, wait_turn, words_turn, write_turn,
+    Round, answer_turn, ask_turn, assign_turn, case_turn, collect_turn, define_turn, end_turn,
+    give_turn, goes_on_reading, input_turn, interrupt, job_wait_turn, pattern_turn, prompt_turn,
+    read, redirect_turn, redirects_turn, series_turn, settle, trap, trap_before, wait_turn,
+    words_turn, write_turn,
 };
+use sh_expand::Pending;
 use sh_files::Files;
 use sh_kernel::Kernel;
 use sh_syntax::tree::Command;

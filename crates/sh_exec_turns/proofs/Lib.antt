@@ -1,1 +1,1 @@
-pub use Rattle.sh_exec_forms.proofs.Outward
+pub use Rattle.sh_exec_settling.proofs.Outward

@@ -9,23 +9,23 @@ use Rattle.sh_exec_parts.specs.declared.message.Piece.{Piece}
 use Rattle.sh_exec_parts.specs.declared.message.Refusal.{Refusal}
 use Rattle.sh_exec_parts.specs.declared.message.Refusal.TheVariants as refusal
 use Rattle.sh_exec_parts.specs.declared.redirection.Redirection.{Redirection}
-use Rattle.sh_exec_forms.specs.Assigning.{assign_turn}
-use Rattle.sh_exec_forms.specs.Cases.{case_turn, pattern_turn}
-use Rattle.sh_exec_forms.specs.Defining.{define_turn}
-use Rattle.sh_exec_forms.specs.Expanding.{Turn, words_turn}
+use Rattle.sh_exec_command.specs.Assigning.{assign_turn}
+use Rattle.sh_exec_command.specs.Cases.{case_turn, pattern_turn}
+use Rattle.sh_exec_command.specs.Defining.{define_turn}
+use Rattle.sh_exec_command.specs.Expanding.{Turn, words_turn}
 use Rattle.sh_exec_actions.specs.Preparing.{ahead, failing, not_done}
-use Rattle.sh_exec_forms.specs.Redirects.{redirects_turn}
-use Rattle.sh_exec_forms.specs.Series as series
-use Rattle.sh_exec_forms.specs.Series.{series_turn}
-use Rattle.sh_exec_forms.specs.Reading.{next_command}
-use Rattle.sh_exec_forms.specs.Found.{Found}
-use Rattle.sh_exec_forms.specs.Found.TheVariants as found
+use Rattle.sh_exec_command.specs.Redirects.{redirects_turn}
+use Rattle.sh_exec_command.specs.Series as series
+use Rattle.sh_exec_command.specs.Series.{series_turn}
+use Rattle.sh_exec_command.specs.Reading.{next_command}
+use Rattle.sh_exec_command.specs.declared.found.Found.{Found}
+use Rattle.sh_exec_command.specs.declared.found.Found.TheVariants as found
 use Rattle.sh_exec_actions.specs.Statuses as statuses
 use Rattle.sh_exec_actions.specs.Statuses.{unexcused}
 use Rattle.sh_exec_actions.specs.declared.action.Active.{Active}
 use Rattle.sh_exec_actions.specs.declared.action.Active.TheVariants.{Next, Done}
 use Rattle.sh_exec_actions.specs.declared.action.Finish.{Finish}
-use Rattle.sh_exec_actions.specs.Answers.{Pending}
+use Rattle.sh_expand.specs.Answers.{Pending}
 use Rattle.sh_exec_actions.specs.declared.action.Action.{Action}
 use Rattle.sh_exec_actions.specs.declared.action.Action.TheVariants.{WaitSubstitution, ReadSubstitution, Ending, Trapping, Writing}
 use Rattle.sh_exec_actions.specs.declared.action.ExpandedCommand.{ExpandedCommand}
@@ -34,15 +34,15 @@ use Rattle.sh_exec_actions.specs.declared.action.Role.TheVariants as role
 use Rattle.sh_exec_actions.specs.declared.action.Substitution.{Substitution}
 use Rattle.sh_exec_actions.specs.declared.action.ToExpand.{ToExpand}
 use Rattle.sh_exec_actions.specs.declared.action.ToExpand.TheVariants.{Words, Values, Redirects, ForWords, CaseWord, CasePattern}
-use Rattle.sh_exec_forms.specs.Round.{Round}
-use Rattle.sh_exec_forms.specs.Round.TheVariants as round
+use Rattle.sh_exec_command.specs.declared.series.Round.{Round}
+use Rattle.sh_exec_command.specs.declared.series.Round.TheVariants as round
 use Rattle.sh_exec_machine.specs.Redirecting.{redirection_outcome}
 use Rattle.sh_exec_machine.specs.Transfers.{give_bytes, take_bytes}
 use Rattle.sh_exec_machine.specs.declared.transfer.ReadOutcome.{ReadOutcome}
 use Rattle.sh_exec_machine.specs.declared.transfer.ReadOutcome.TheVariants as taken
 use Rattle.sh_exec_machine.specs.declared.undone.Undone.{Undone}
-use Rattle.sh_exec_forms.specs.Writing.{written_by}
-use Rattle.sh_exec_forms.specs.Forms.{Acted, behind_status, with_run}
+use Rattle.sh_exec_waiting.specs.Writing.{written_by}
+use Rattle.sh_exec_settling.specs.Forms.{Acted, behind_status, with_run}
 use Rattle.sh_exec_forms.specs.Entering.{items_run, list_run}
 use Rattle.sh_exec_forms.specs.Moves.{move_run}
 use Rattle.sh_exec_forms.specs.Stacks.{run_in}
@@ -120,13 +120,9 @@ collect_turn s shell substitution = collect_end s shell substitution substitutio
 -- ---- redirection (2.7); what the process of a program or of a subshell changes is never undone; what exec changes is, up to where it has
 -- acted (2.15)
 abbrev pub keeps : Role → Bool
-keeps role.NoCommandName = true
-keeps (role.Builtin invocation) = true
-keeps (role.Function body) = true
 keeps role.Program = false
-keeps (role.Exec is_command is_special) = true
-keeps (role.Compound command) = true
 keeps (role.Subshell list) = false
+keeps _ = true
 
 abbrev pub undone_by : List Undone → Option Undone → List Undone
 undone_by undo None = undo

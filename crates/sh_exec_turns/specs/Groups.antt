@@ -3,11 +3,11 @@ use Rattle.std.specs.Prelude.{ℕ, List, [], ◌∷◌, Bool, true, false, Optio
 use Rattle.sh_builtin_shell.specs.Shells.{has_job_control}
 use Rattle.sh_builtin_shell.specs.declared.shell.Shell.{Shell}
 use Rattle.sh_exec_machine.specs.Forking.{Forked}
-use Rattle.sh_exec_forms.specs.Signals.{after_own_signals}
-use Rattle.sh_exec_forms.specs.Waiting.{terminal_back}
+use Rattle.sh_exec_settling.specs.Signals.{after_own_signals}
+use Rattle.sh_exec_waiting.specs.Waiting.{terminal_back}
 use Rattle.sh_kernel.specs.Calls.{after_set_action, after_set_foreground, after_set_group}
 use Rattle.sh_kernel.specs.State.{KernelState}
-use Rattle.sh_kernel_signals.specs.declared.member.SignalAction.TheVariants.{Ignored}
+use Rattle.sh_kernel_processes.specs.declared.member.SignalAction.TheVariants.{Ignored}
 use Rattle.sh_signal.specs.declared.signal.Signal.TheVariants.{Interrupt, Quit}
 
 -- ---- groups (2.11): with job control the processes of a pipeline are a group, which the first of them names; that is the foreground group

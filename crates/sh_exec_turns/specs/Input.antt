@@ -10,17 +10,17 @@ use Rattle.sh_exec_actions.specs.declared.action.Action.TheVariants.{ReadInput}
 use Rattle.sh_exec_actions.specs.declared.action.Active.TheVariants.{Next, Done}
 use Rattle.sh_exec_actions.specs.declared.beginning.Beginning.{Beginning}
 use Rattle.sh_exec_actions.specs.declared.form.Form.TheVariants.{Input}
-use Rattle.sh_exec_forms.specs.Reading.{input_found}
-use Rattle.sh_exec_forms.specs.InputFound.{InputFound}
-use Rattle.sh_exec_forms.specs.InputFound.TheVariants as found
+use Rattle.sh_exec_command.specs.Reading.{input_found}
+use Rattle.sh_exec_command.specs.declared.found.InputFound.{InputFound}
+use Rattle.sh_exec_command.specs.declared.found.InputFound.TheVariants as found
 use Rattle.sh_exec_forms.specs.Entering.{items_run}
-use Rattle.sh_exec_forms.specs.Forms.{Acted, with_run}
+use Rattle.sh_exec_settling.specs.Forms.{Acted, with_run}
 use Rattle.sh_exec_forms.specs.Running.{Run, At, In}
 use Rattle.sh_exec_machine.specs.Transfers.{take_bytes}
 use Rattle.sh_exec_machine.specs.declared.transfer.ReadOutcome.{ReadOutcome}
 use Rattle.sh_exec_machine.specs.declared.transfer.ReadOutcome.TheVariants as taken
-use Rattle.sh_exec_forms.specs.ReadLimit.{most_read}
-use Rattle.sh_exec_forms.specs.Prompting.{input_action}
+use Rattle.sh_exec_settling.specs.ReadLimit.{most_read}
+use Rattle.sh_exec_settling.specs.Prompting.{input_action}
 use Rattle.sh_exec_turns.specs.Acting.{after_refusal}
 use Rattle.sh_kernel.specs.State.{KernelState}
 use Rattle.sh_kernel_descriptors.specs.declared.descriptor.DescriptorRef.TheVariants.{Number}

@@ -7,17 +7,17 @@ use Rattle.sh_builtin_outcome.specs.declared.rest.Ask.TheVariants as ask
 use Rattle.sh_builtin_shell.specs.declared.shell.Shell.{Shell}
 use Rattle.sh_exec_actions.specs.declared.action.Action.{Action}
 use Rattle.sh_exec_actions.specs.declared.action.Action.TheVariants.{Reading, Prompting, ReadInput, Expanding, ReadSubstitution, WaitSubstitution, Asking, WaitForJob, Redirecting, Forking, Starting, ForkStage, ForkList, AssignLoopVariable, Defining, Waiting, Writing, Trapping, Ending}
-use Rattle.sh_exec_actions.specs.Answers.{Pending}
+use Rattle.sh_expand.specs.Answers.{Pending}
 use Rattle.sh_exec_actions.specs.declared.action.ToExpand.{ToExpand}
 use Rattle.sh_exec_actions.specs.declared.action.ToExpand.TheVariants.{Words, Values, Redirects, ForWords, CaseWord, CasePattern}
 use Rattle.sh_exec_actions.specs.declared.form.Form.{Form}
 use Rattle.sh_exec_actions.specs.declared.form.Form.TheVariants.{Interruption}
-use Rattle.sh_exec_forms.specs.Expanding.{fatal}
-use Rattle.sh_exec_forms.specs.Reading.{next_command}
-use Rattle.sh_exec_forms.specs.Forms.{Acted, behind_status, with_run}
+use Rattle.sh_exec_actions.specs.Preparing.{fatal}
+use Rattle.sh_exec_command.specs.Reading.{next_command}
+use Rattle.sh_exec_settling.specs.Forms.{Acted, behind_status, with_run}
 use Rattle.sh_exec_forms.specs.Running.{At, In}
 use Rattle.sh_exec_forms.specs.Frames.{levels_left}
-use Rattle.sh_exec_forms.specs.Signals.{is_dropping, is_interrupt_next, pending_action}
+use Rattle.sh_exec_settling.specs.Signals.{is_dropping, is_interrupt_next, pending_action}
 use Rattle.sh_exec_parts.specs.Messages.{refusal_text}
 use Rattle.sh_exec_parts.specs.Simple.{compound_redirects}
 use Rattle.sh_exec_parts.specs.declared.message.Refusal.TheVariants as refusal
@@ -82,25 +82,8 @@ interrupted (suc levels) s shell place text =
 
 -- where the shell is to end, `$?` is the status with which it is to
 abbrev pub shell_before : Shell → Action → Shell
-shell_before shell (Reading rest status) = shell
-shell_before shell (Prompting beginning) = shell
-shell_before shell (ReadInput beginning) = shell
-shell_before shell (Expanding wants pending) = shell
-shell_before shell (ReadSubstitution substitution) = shell
-shell_before shell (WaitSubstitution substitution) = shell
-shell_before shell (Asking rest) = shell
-shell_before shell (WaitForJob wait) = shell
-shell_before shell (Redirecting p) = shell
-shell_before shell (Forking p) = shell
-shell_before shell (Starting start) = shell
-shell_before shell (ForkStage stages) = shell
-shell_before shell (ForkList list) = shell
-shell_before shell (AssignLoopVariable series) = shell
-shell_before shell (Defining definition) = shell
-shell_before shell (Waiting wait) = shell
-shell_before shell (Writing piece finish) = shell
 shell_before shell (Trapping status) = behind_status shell status
-shell_before shell (Ending status) = shell
+shell_before shell _ = shell
 
 unfoldable pub interruption : (around : List Form) → KernelState → Shell → Action → (text : List ℕ) → Acted
 interruption around s shell place text = interrupted (levels_left around) (after_take_signal s shell.pid) (shell_before shell place) place text
@@ -142,25 +125,8 @@ is_read ask.Signal = false
 is_read ask.Continue = false
 
 abbrev pub drops_at_once : Action → Bool
-drops_at_once (Reading rest status) = false
-drops_at_once (Prompting beginning) = false
-drops_at_once (ReadInput beginning) = false
-drops_at_once (Expanding wants pending) = false
-drops_at_once (ReadSubstitution substitution) = false
-drops_at_once (WaitSubstitution substitution) = false
 drops_at_once (Asking rest) = is_read (ask_of rest)
-drops_at_once (WaitForJob wait) = false
-drops_at_once (Redirecting p) = false
-drops_at_once (Forking p) = false
-drops_at_once (Starting start) = false
-drops_at_once (ForkStage stages) = false
-drops_at_once (ForkList list) = false
-drops_at_once (AssignLoopVariable series) = false
-drops_at_once (Defining definition) = false
-drops_at_once (Waiting wait) = false
-drops_at_once (Writing piece finish) = false
-drops_at_once (Trapping status) = false
-drops_at_once (Ending status) = false
+drops_at_once _ = false
 
 abbrev pub drops_before : KernelState → Shell → Action → Bool
 drops_before s shell place = is_dropping s shell && (drops_at_once place || (may_drop place && is_interrupt_next s shell))

@@ -5,9 +5,10 @@ ghost use Rattle.sh_kernel.specs.State.{KernelState, StandsAt};
 ghost use Rattle.sh_exec_turns.specs.Groups.{behind_fork, behind_fork_by, given_terminal, ignoring_keys, in_group, leader, released, with_control, without_control};
 
 use sh_builtin_shell::Shell;
-use sh_exec_forms::{release_own_signals, take_terminal_back};
+use sh_exec_settling::release_own_signals;
+use sh_exec_waiting::take_terminal_back;
 use sh_kernel::Kernel;
-use sh_kernel_signals::SignalAction;
+use sh_kernel_processes::SignalAction;
 use sh_signal::Signal;
 
 /// The terminal's foreground group is that of a pipeline's first process, for which the shell waits.

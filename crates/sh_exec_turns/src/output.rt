@@ -2,17 +2,17 @@
 ghost use Rattle.std.specs.Prelude.{◌≡◌, IfOk};
 ghost use Rattle.sh_kernel.specs.State.{KernelState, StandsAt};
 ghost use Rattle.sh_tty.specs.Terminal.{Extends};
-ghost use Rattle.sh_exec_forms.specs.Forms.{IsActed};
+ghost use Rattle.sh_exec_settling.specs.Forms.{IsActed};
 ghost use Rattle.sh_exec_turns.specs.Acting.{end_turn, write_turn};
 ghost use Rattle.sh_exec_forms.specs.Running.{Run};
-ghost use Rattle.sh_exec_forms.specs.Writing.{written_by};
+ghost use Rattle.sh_exec_waiting.specs.Writing.{written_by};
 
 use sh_base::NoMemory;
 use sh_builtin_shell::Shell;
 use sh_exec_actions::{Action, Active, Finish};
-use sh_exec_forms::after_write;
 use sh_exec_machine::{end_process, give_bytes};
 use sh_exec_parts::message::Piece;
+use sh_exec_waiting::after_write;
 use sh_kernel::Kernel;
 use std::alloc::Global;
 

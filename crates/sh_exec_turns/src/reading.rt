@@ -1,6 +1,6 @@
 //! The reading of the next command of a text.
 ghost use Rattle.std.specs.Prelude.{◌≡◌, IfOk};
-ghost use Rattle.sh_exec_forms.specs.Reading.{next_command};
+ghost use Rattle.sh_exec_command.specs.Reading.{next_command};
 ghost use Rattle.sh_exec_forms.specs.Stacks.{run_in, run_of};
 ghost use Rattle.sh_exec_forms.specs.Frames.{ends_shell};
 ghost use Rattle.sh_exec_turns.specs.Acting.{after_refusal, is_fatal, read_turn};
@@ -9,7 +9,8 @@ use sh_base::NoMemory;
 use sh_builtin_shell::Shell;
 use sh_exec_actions::status::ERROR;
 use sh_exec_actions::{Action, Active, CommandStatus, Form, failing};
-use sh_exec_forms::{Found, Frames, enter, find_command};
+use sh_exec_command::{Found, find_command};
+use sh_exec_forms::{Frames, enter};
 use sh_exec_parts::message::{Refusal, refused};
 use sh_exec_parts::{Queue, Rest};
 use std::alloc::Global;

@@ -1,7 +1,7 @@
 //! The redirection turns of a command.
 ghost use Rattle.std.specs.Prelude.{◌≡◌, IfOk};
 ghost use Rattle.sh_kernel.specs.State.{KernelState, StandsAt};
-ghost use Rattle.sh_exec_forms.specs.Forms.{IsActed};
+ghost use Rattle.sh_exec_settling.specs.Forms.{IsActed};
 ghost use Rattle.sh_exec_turns.specs.Acting.{in_forms, keeps, with_undo, redirect_by, redirect_from, redirect_one, redirect_turn, undone_by};
 ghost use Rattle.sh_exec_forms.specs.Stacks.{run_in, run_of};
 
@@ -11,22 +11,15 @@ use sh_exec_actions::{Active, ExpandedCommand, Role, go_ahead, not_done};
 use sh_exec_forms::{Frames, go_to};
 use sh_exec_machine::{Redirected, Undone, redirect};
 use sh_exec_parts::redirection::Redirection;
-use sh_kernel::{Kernel, KernelFault};
+use sh_kernel::Kernel;
+use sh_kernel_descriptors::KernelFault;
 use std::alloc::Global;
 
 /// Whether the redirections of a command are undone after it.
 fn keeps(role: &Role) -> bool
     ensures { result ≡ keeps role.now }
 {
-    match role {
-        Role::NoCommandName => true,
-        Role::Builtin(_) => true,
-        Role::Function(_) => true,
-        Role::Program => false,
-        Role::Exec { .. } => true,
-        Role::Compound(_) => true,
-        Role::Subshell(_) => false,
-    }
+    !matches!(role, Role::Program | Role::Subshell(_))
 }
 
 /// A command with one redirection more to be undone.

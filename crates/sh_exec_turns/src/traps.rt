@@ -1,8 +1,8 @@
 //! The traps of a shell: the one on EXIT, and those on signals.
 ghost use Rattle.std.specs.Prelude.{◌≡◌, ◌∷◌, IfOk, OnOk};
 ghost use Rattle.std.specs.Option.{is_some};
-ghost use Rattle.sh_exec_forms.specs.Expanding.{fatal};
-ghost use Rattle.sh_exec_forms.specs.Forms.{IsActed, behind_status};
+ghost use Rattle.sh_exec_actions.specs.Preparing.{fatal};
+ghost use Rattle.sh_exec_settling.specs.Forms.{IsActed, behind_status};
 ghost use Rattle.sh_exec_forms.specs.Running.{Run};
 ghost use Rattle.sh_exec_forms.specs.Stacks.{run_in, run_of};
 ghost use Rattle.sh_exec_parts.specs.Messages.{refusal_text};
@@ -18,11 +18,13 @@ use sh_base::sequence::Text;
 use sh_builtin_environment::copy_of_action;
 use sh_builtin_outcome::Ask;
 use sh_builtin_shell::Shell;
-use sh_exec_actions::{Action, Active, Boxed, Form, Pending, ToExpand};
-use sh_exec_forms::{Frames, fatal_message, is_dropping, is_interrupt_next, pending_action};
+use sh_exec_actions::{Action, Active, Boxed, Form, ToExpand, fatal_message};
+use sh_exec_forms::Frames;
 use sh_exec_parts::Rest;
 use sh_exec_parts::compound::compound_redirects;
 use sh_exec_parts::message::{Refusal, refused};
+use sh_exec_settling::{is_dropping, is_interrupt_next, pending_action};
+use sh_expand::Pending;
 use sh_kernel::Kernel;
 use sh_signal::Condition;
 use sh_syntax::tree::Command;

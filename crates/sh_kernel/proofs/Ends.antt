@@ -1,20 +1,19 @@
 -- The end of a process stops no process: of the others only those that were stopped can have changed.
 use Rattle.std.proofs.Common.{◌≡◌, ℕ, zero, suc, ◌-◌, List, [], ◌∷◌, filter, Bool, true, false, cond, ◌&&◌, ◌||◌, Option, Some, None, slice_get, slice_set, refl, sym, ap, subst, ◌∙◌, option_map, nat_le}
 use Rattle.std.specs.Prelude.{find}
-use Rattle.sh_kernel_processes.specs.Processes.{process_at, status_at, with_status, with_status_of, parent_at}
-use Rattle.sh_kernel_processes.specs.Processes.{is_running}
+use Rattle.sh_kernel_processes.specs.Processes.{process_at, status_at, with_status, with_status_of, parent_at, is_running}
 use Rattle.sh_kernel_processes.specs.declared.process.Process.{Process}
 use Rattle.sh_kernel_processes.specs.declared.process.Status.{Status}
 use Rattle.sh_kernel_processes.specs.declared.process.Status.TheVariants.{Running, Stopped, Exited, Signaled}
-use Rattle.sh_kernel_signals.proofs.Statuses.{member_pid, signal_pid}
-use Rattle.sh_kernel_signals.specs.Delivery.{action_of, after_action, after_default, after_signal}
-use Rattle.sh_kernel_signals.specs.Groups.{ProcessTable, is_orphaned, is_stopped, member_at}
-use Rattle.sh_kernel_signals.specs.Sending.{after_end, after_hang_up, after_hang_up_by, after_hang_ups, after_notice, after_notice_to, after_orphaning, after_receipt, after_receipt_by, after_signal_to, after_signal_to_each, groups_at_risk, is_abandoned, is_news, is_reached, pids_of, with_exit}
-use Rattle.sh_kernel_signals.specs.declared.member.Member.{Member}
-use Rattle.sh_kernel_signals.specs.declared.member.SignalAction.{SignalAction}
-use Rattle.sh_kernel_signals.specs.declared.member.SignalAction.TheVariants.{Default, Ignored, Caught}
-use Rattle.sh_kernel_signals.specs.declared.target.SignalTarget.{SignalTarget}
-use Rattle.sh_kernel_signals.specs.declared.target.SignalTarget.TheVariants as target
+use Rattle.sh_kernel_processes.proofs.Statuses.{member_pid, signal_pid}
+use Rattle.sh_kernel_processes.specs.Delivery.{action_of, after_action, after_default, after_signal}
+use Rattle.sh_kernel_processes.specs.Groups.{ProcessTable, is_orphaned, is_stopped, member_at}
+use Rattle.sh_kernel_processes.specs.Sending.{after_end, after_hang_up, after_hang_up_by, after_hang_ups, after_notice, after_notice_to, after_orphaning, after_receipt, after_receipt_by, after_signal_to, after_signal_to_each, groups_at_risk, is_abandoned, is_news, is_reached, pids_of, with_exit}
+use Rattle.sh_kernel_processes.specs.declared.member.Member.{Member}
+use Rattle.sh_kernel_processes.specs.declared.member.SignalAction.{SignalAction}
+use Rattle.sh_kernel_processes.specs.declared.member.SignalAction.TheVariants.{Default, Ignored, Caught}
+use Rattle.sh_kernel_processes.specs.declared.target.SignalTarget.{SignalTarget}
+use Rattle.sh_kernel_processes.specs.declared.target.SignalTarget.TheVariants as target
 use Rattle.sh_signal.specs.Signals.{default_of}
 use Rattle.sh_signal.specs.declared.signal.DefaultAction.{DefaultAction}
 use Rattle.sh_signal.specs.declared.signal.DefaultAction.TheVariants as default

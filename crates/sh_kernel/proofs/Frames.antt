@@ -31,7 +31,7 @@ use Rattle.sh_kernel_descriptors.specs.declared.descriptor.DescriptorRef.TheVari
 use Rattle.sh_kernel_descriptors.specs.declared.description.Description.{Description}
 use Rattle.sh_kernel_descriptors.specs.declared.description.Target.TheVariants.{ReadEnd, WriteEnd}
 use Rattle.sh_kernel_processes.specs.declared.process.Process.{Process}
-use Rattle.sh_kernel_signals.specs.Laws.{OnlyStatuses}
+use Rattle.sh_kernel_processes.specs.Laws.{OnlyStatuses}
 use Rattle.sh_kernel.specs.Laws.{ChangesOnlyReached, RequestsChangeOnlyReached, is_opened, opens, sends}
 use Rattle.sh_kernel_machine.specs.Signals.{with_processes}
 use Rattle.sh_kernel.specs.Reaching.{is_end, is_file, reaches}

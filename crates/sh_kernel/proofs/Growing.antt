@@ -27,11 +27,11 @@ use Rattle.sh_kernel_descriptors.specs.Reading.{with_offset, moved_of}
 use Rattle.sh_kernel_descriptors.specs.declared.descriptor.Closing.{Closing}
 use Rattle.sh_kernel_descriptors.specs.declared.description.Description.{Description}
 use Rattle.sh_kernel.specs.Laws.{KeysOnlyGrow, OnlyGrows, RequestsOnlyGrow, target_at}
-use Rattle.sh_kernel_signals.proofs.Statuses.{signals_change}
-use Rattle.sh_kernel_signals.specs.Laws.{OnlyStatuses}
-use Rattle.sh_kernel_signals.specs.Sending.{after_send, pids_of}
-use Rattle.sh_kernel_signals.specs.declared.target.SignalTarget.{SignalTarget}
-use Rattle.sh_kernel_signals.specs.declared.target.SignalTarget.TheVariants.{Group}
+use Rattle.sh_kernel_processes.proofs.Statuses.{signals_change}
+use Rattle.sh_kernel_processes.specs.Laws.{OnlyStatuses}
+use Rattle.sh_kernel_processes.specs.Sending.{after_send, pids_of}
+use Rattle.sh_kernel_processes.specs.declared.target.SignalTarget.{SignalTarget}
+use Rattle.sh_kernel_processes.specs.declared.target.SignalTarget.TheVariants.{Group}
 use Rattle.sh_signal.specs.declared.signal.Signal.{Signal}
 use Rattle.sh_tty.specs.Happenings as tty
 use Rattle.sh_tty.specs.Keys.{key_of, signal_of}

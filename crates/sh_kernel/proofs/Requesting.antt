@@ -19,11 +19,11 @@ use Rattle.sh_kernel_descriptors.specs.declared.descriptor.Closing.TheVariants.{
 use Rattle.sh_kernel_descriptors.specs.declared.descriptor.DescriptorRef.{DescriptorRef}
 use Rattle.sh_kernel_descriptors.specs.declared.descriptor.DescriptorRef.TheVariants.{Number, Aside}
 use Rattle.sh_kernel_processes.specs.declared.process.Process as process
-use Rattle.sh_kernel_signals.specs.Laws.{OnlyStatuses}
-use Rattle.sh_kernel_signals.specs.Sending.{after_end, after_send, pids_of, reaches}
-use Rattle.sh_kernel_signals.specs.declared.target.SignalTarget.{SignalTarget}
-use Rattle.sh_kernel_signals.specs.declared.target.SignalTarget.TheVariants as target
-use Rattle.sh_kernel_signals.proofs.Statuses.{ends_change, signals_change}
+use Rattle.sh_kernel_processes.specs.Laws.{OnlyStatuses}
+use Rattle.sh_kernel_processes.specs.Sending.{after_end, after_send, pids_of, reaches}
+use Rattle.sh_kernel_processes.specs.declared.target.SignalTarget.{SignalTarget}
+use Rattle.sh_kernel_processes.specs.declared.target.SignalTarget.TheVariants as target
+use Rattle.sh_kernel_processes.proofs.Statuses.{ends_change, signals_change}
 use Rattle.sh_signal.specs.declared.signal.Signal.{Signal}
 use Rattle.sh_signal.specs.declared.signal.Signal.TheVariants.{Pipe, TerminalInput}
 use Rattle.sh_kernel_descriptors.specs.declared.fault.KernelFault.TheVariants.{NoProcess, TooManyProcesses, TooManyDescriptors}

@@ -18,7 +18,7 @@ use Rattle.sh_signal.specs.declared.signal.Signal.{Signal}
 use Rattle.sh_kernel_descriptors.specs.Outcomes.{refusal, success}
 use Rattle.sh_kernel_processes.specs.Processes.{lives, may_fork, next_pid}
 use Rattle.sh_kernel_descriptors.specs.declared.fault.KernelFault.TheVariants.{NoProcess, TooManyProcesses}
-use Rattle.sh_kernel_signals.specs.Sending.{reaches as reached}
+use Rattle.sh_kernel_processes.specs.Sending.{reaches as reached}
 use Rattle.sh_kernel.specs.declared.access.Access.{Access}
 use Rattle.sh_kernel.specs.declared.access.Access.TheVariants.{Granted, Raises, Refused}
 use Rattle.sh_kernel.specs.Calls.{access, after_raising, broken_pipe, is_broken, on_machine, read_by, read_terminal, with_new_process, with_program, write_machine, write_terminal}

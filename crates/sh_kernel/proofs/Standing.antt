@@ -5,9 +5,9 @@ use Rattle.sh_kernel_processes.specs.declared.process.Process.{Process}
 use Rattle.sh_kernel_processes.specs.declared.process.Status.{Status}
 use Rattle.sh_kernel_machine.specs.Machine as kept
 use Rattle.sh_kernel_machine.specs.Signals.{with_processes}
-use Rattle.sh_kernel_signals.specs.Groups.{ProcessTable}
-use Rattle.sh_kernel_signals.specs.Sending.{after_end, pids_of}
-use Rattle.sh_kernel_signals.specs.declared.member.Member.{Member}
+use Rattle.sh_kernel_processes.specs.Groups.{ProcessTable}
+use Rattle.sh_kernel_processes.specs.Sending.{after_end, pids_of}
+use Rattle.sh_kernel_processes.specs.declared.member.Member.{Member}
 use Rattle.sh_kernel.specs.Changes.{Changes, changed, is_stopped_at, numbered_status}
 use Rattle.sh_kernel.specs.Signals.{with_table}
 use Rattle.sh_kernel.specs.State.{KernelKept, KernelState, StandsAt}

@@ -1,10 +1,10 @@
 -- Which processes may read the terminal: it belongs to the foreground process group (XBD 11.1.4).
 use Rattle.std.specs.Prelude.{ℕ, ◌==◌, ◌||◌, Bool, true, false, not, Option, Some, None, if◌then◌else◌}
-use Rattle.sh_kernel_signals.specs.Delivery.{action_of}
-use Rattle.sh_kernel_signals.specs.Groups.{ProcessTable, is_orphaned, member_at}
-use Rattle.sh_kernel_signals.specs.declared.member.Member.{Member}
-use Rattle.sh_kernel_signals.specs.declared.member.SignalAction.{SignalAction}
-use Rattle.sh_kernel_signals.specs.declared.member.SignalAction.TheVariants.{Default, Ignored, Caught}
+use Rattle.sh_kernel_processes.specs.Delivery.{action_of}
+use Rattle.sh_kernel_processes.specs.Groups.{ProcessTable, is_orphaned, member_at}
+use Rattle.sh_kernel_processes.specs.declared.member.Member.{Member}
+use Rattle.sh_kernel_processes.specs.declared.member.SignalAction.{SignalAction}
+use Rattle.sh_kernel_processes.specs.declared.member.SignalAction.TheVariants.{Default, Ignored, Caught}
 use Rattle.sh_signal.specs.declared.signal.Signal.TheVariants.{TerminalInput}
 use Rattle.sh_kernel.specs.declared.access.Access.{Access}
 use Rattle.sh_kernel.specs.declared.access.Access.TheVariants.{Granted, Raises, Refused}

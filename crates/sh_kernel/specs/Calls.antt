@@ -15,11 +15,11 @@ use Rattle.sh_kernel_descriptors.specs.declared.descriptor.DescriptorRef.{Descri
 use Rattle.sh_kernel_descriptors.specs.declared.descriptor.DescriptorRef.TheVariants.{Number}
 use Rattle.sh_kernel_descriptors.specs.declared.fault.KernelFault.{KernelFault}
 use Rattle.sh_kernel_descriptors.specs.declared.fault.KernelFault.TheVariants.{BadDescriptor, BrokenPipe, File, InputOutput, NoMemory, NoProcess, TooManyDescriptors, TooManyProcesses, WouldWait}
-use Rattle.sh_kernel_signals.specs.Changes.{after_start, after_taking, with_action, with_change, with_fork, with_group}
-use Rattle.sh_kernel_signals.specs.Sending.{reaches}
-use Rattle.sh_kernel_signals.specs.declared.member.SignalAction.{SignalAction}
-use Rattle.sh_kernel_signals.specs.declared.target.SignalTarget.{SignalTarget}
-use Rattle.sh_kernel_signals.specs.declared.target.SignalTarget.TheVariants.{Group, Process}
+use Rattle.sh_kernel_processes.specs.Changes.{after_start, after_taking, with_action, with_change, with_fork, with_group}
+use Rattle.sh_kernel_processes.specs.Sending.{reaches}
+use Rattle.sh_kernel_processes.specs.declared.member.SignalAction.{SignalAction}
+use Rattle.sh_kernel_processes.specs.declared.target.SignalTarget.{SignalTarget}
+use Rattle.sh_kernel_processes.specs.declared.target.SignalTarget.TheVariants.{Group, Process}
 use Rattle.sh_signal.specs.declared.signal.Signal.{Signal}
 use Rattle.sh_signal.specs.declared.signal.Signal.TheVariants.{Pipe, TerminalInput}
 use Rattle.sh_tty.specs.Happenings as tty

@@ -3,12 +3,11 @@
 -- one.
 use Rattle.std.specs.Prelude.{ℕ, ◌+◌, ◌-◌, ◌==◌, ◌&&◌, ◌||◌, List, [], ◌∷◌, ◌++◌, Bool, true, false, not, Option, if◌then◌else◌, min, nat_le, slice_get, slice_set, unwrap_or}
 use Rattle.std.specs.Option.{option_map_or}
-use Rattle.sh_kernel_processes.specs.Processes.{status_at}
-use Rattle.sh_kernel_processes.specs.Processes.{is_running}
+use Rattle.sh_kernel_processes.specs.Processes.{status_at, is_running}
 use Rattle.sh_kernel_processes.specs.declared.process.Process.{Process}
 use Rattle.sh_kernel_processes.specs.declared.process.Status.{Status}
 use Rattle.sh_kernel_processes.specs.declared.process.Status.TheVariants.{Running, Stopped, Exited, Signaled}
-use Rattle.sh_kernel_signals.specs.Groups.{is_stopped}
+use Rattle.sh_kernel_processes.specs.Groups.{is_stopped}
 use Rattle.sh_signal.specs.Signals.{number_of}
 use Rattle.sh_signal.specs.declared.signal.Signal.TheVariants.{Kill}
 

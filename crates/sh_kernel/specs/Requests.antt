@@ -2,8 +2,8 @@
 use Rattle.std.specs.Prelude.{ℕ, List, [], ◌∷◌, Bool}
 use Rattle.sh_files.specs.declared.opening.Opening.{Opening}
 use Rattle.sh_kernel_descriptors.specs.declared.descriptor.DescriptorRef.{DescriptorRef}
-use Rattle.sh_kernel_signals.specs.declared.member.SignalAction.{SignalAction}
-use Rattle.sh_kernel_signals.specs.declared.target.SignalTarget.{SignalTarget}
+use Rattle.sh_kernel_processes.specs.declared.member.SignalAction.{SignalAction}
+use Rattle.sh_kernel_processes.specs.declared.target.SignalTarget.{SignalTarget}
 use Rattle.sh_signal.specs.declared.signal.Signal.{Signal}
 use Rattle.sh_kernel.specs.State.{KernelState}
 use Rattle.sh_kernel.specs.Calls.{after_set_action, after_set_foreground, after_set_group, after_take_signal, close_call, dup_call, end_call, fork_call, here_call, kill_call, open_call, pipe_call, put_back_call, read_call, set_aside_call, start_call, write_call}

@@ -2,9 +2,9 @@
 -- stopped or went on.
 use Rattle.std.specs.Prelude.{ℕ}
 use Rattle.sh_kernel_machine.specs.Signals.{with_processes}
-use Rattle.sh_kernel_signals.specs.Groups.{ProcessTable}
-use Rattle.sh_kernel_signals.specs.Sending.{after_end, after_send, pids_of}
-use Rattle.sh_kernel_signals.specs.declared.target.SignalTarget.{SignalTarget}
+use Rattle.sh_kernel_processes.specs.Groups.{ProcessTable}
+use Rattle.sh_kernel_processes.specs.Sending.{after_end, after_send, pids_of}
+use Rattle.sh_kernel_processes.specs.declared.target.SignalTarget.{SignalTarget}
 use Rattle.sh_signal.specs.declared.signal.Signal.{Signal}
 use Rattle.sh_kernel.specs.Changes.{changed}
 use Rattle.sh_kernel.specs.State.{KernelState}

@@ -4,8 +4,8 @@ use Rattle.std.specs.Prelude.{◌≡◌, ℕ, List, [], ◌∷◌, Bool}
 use Rattle.sh_files.specs.Nodes.{FileMap}
 use Rattle.sh_kernel_descriptors.specs.Machine.{MachineState}
 use Rattle.sh_kernel_descriptors.specs.Starting as machine
-use Rattle.sh_kernel_signals.specs.Changes.{first_member}
-use Rattle.sh_kernel_signals.specs.declared.member.Member.{Member}
+use Rattle.sh_kernel_processes.specs.Changes.{first_member}
+use Rattle.sh_kernel_processes.specs.declared.member.Member.{Member}
 use Rattle.sh_kernel_machine.specs.Machine as kept
 use Rattle.sh_tty.specs.Happenings.{Happening}
 use Rattle.sh_tty.specs.Terminal as tty

@@ -2,7 +2,7 @@
 use Rattle.std.specs.Prelude.{◌≡◌, ℕ, List, [], ◌∷◌, Bool, true, not}
 use Rattle.sh_kernel_machine.specs.Machine as kept
 use Rattle.sh_kernel_processes.specs.Processes.{is_running, lives, status_at}
-use Rattle.sh_kernel_signals.specs.declared.member.Member.{Member}
+use Rattle.sh_kernel_processes.specs.declared.member.Member.{Member}
 use Rattle.sh_tty.specs.Happenings.{entries_of}
 use Rattle.sh_tty.specs.Terminal.{TtyKept}
 use Rattle.sh_kernel.specs.State.{KernelState, StandsAt, WatchKept}

@@ -2,8 +2,7 @@
 ghost use Rattle.std.specs.Prelude.{◌≡◌};
 ghost use Rattle.sh_kernel.specs.Access.{access_of, background_access, is_ignored, is_in_background, may_not_read};
 
-use sh_kernel_processes::Process;
-use sh_kernel_signals::{Member, SignalAction, is_orphaned, member_at};
+use sh_kernel_processes::{Member, Process, SignalAction, is_orphaned, member_at};
 use sh_signal::Signal;
 
 /// What the terminal does where a process reads from it (XBD 11.1.4).

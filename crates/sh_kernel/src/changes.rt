@@ -2,14 +2,13 @@
 ghost use Rattle.std.specs.Prelude.{◌≡◌, ◌-◌, ◌<◌, ℕ, List, IfOk, OnOk, filter, if◌then◌else◌, map, slice_set};
 ghost use Rattle.sh_kernel_processes.specs.Processes.{status_at};
 ghost use Rattle.sh_kernel_processes.specs.declared.process.Process.{Process};
-ghost use Rattle.sh_kernel_signals.specs.Groups.{is_stopped};
-ghost use Rattle.sh_kernel_signals.specs.Sending.{pids_of};
+ghost use Rattle.sh_kernel_processes.specs.Groups.{is_stopped};
+ghost use Rattle.sh_kernel_processes.specs.Sending.{pids_of};
 ghost use Rattle.sh_kernel.specs.Changes.{goes_on, has_gone_on, is_change, is_stopped_at, moment_of, next_moment, numbered_status, with_changes_in};
 
 use sh_base::NoMemory;
 use sh_kernel_machine::Machine;
-use sh_kernel_processes::{FIRST_PID, Status, is_running};
-use sh_kernel_signals::Member;
+use sh_kernel_processes::{FIRST_PID, Member, Status, is_running};
 use sh_signal::Signal;
 use std::alloc::{AllocError, Global};
 use std::marker::Model;

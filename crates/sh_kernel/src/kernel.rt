@@ -1,9 +1,9 @@
 //! The kernel.
 ghost use Rattle.sh_base.specs.Memory.{no_memory};
-ghost use Rattle.std.specs.Prelude.{◌≡◌, ◌<◌, ◌∷◌, ◌&&◌, ℕ, List, IfErr, IfOk, OnErr, OnOk, length, not, true, vec_capacity, vec_len};
+ghost use Rattle.std.specs.Prelude.{◌≡◌, ◌<◌, ◌≤◌, ◌∷◌, ◌&&◌, ℕ, List, IfErr, IfOk, OnErr, OnOk, length, not, true, vec_capacity, vec_len};
 ghost use Rattle.sh_kernel_descriptors.specs.Waiting.{waits};
 ghost use Rattle.sh_kernel.specs.Turns.{is_any_running, untraced_answer};
-ghost use Rattle.sh_kernel_signals.specs.Changes.{with_fork};
+ghost use Rattle.sh_kernel_processes.specs.Changes.{with_fork};
 ghost use Rattle.sh_tty.specs.Happenings.{Happening};
 ghost use Rattle.sh_tty.specs.Terminal as tty;
 ghost use Rattle.sh_tty.specs.Terminal.{Extends};
@@ -20,8 +20,10 @@ use sh_base::NoMemory;
 use sh_files::{Files, Opening};
 use sh_kernel_descriptors::{DescriptorRef, Entry, KernelFault};
 use sh_kernel_machine::Machine;
-use sh_kernel_processes::{FIRST_PID, Process, Status, all_children, is_running, status_at};
-use sh_kernel_signals::{Member, SignalTarget, member_at, new_member, start_program};
+use sh_kernel_processes::{
+    FIRST_PID, Member, Process, SignalTarget, Status, all_children, is_running, member_at,
+    new_member, start_program, status_at,
+};
 use sh_pipe::Pipe;
 use sh_signal::Signal;
 use sh_tty::{Tty, TtyFault};
@@ -390,6 +392,7 @@ impl Kernel {
             → GivesReadOrLacks result buf.old buf.new self.new s (read_call s pid name (length buf.old)) }
         ensures room { (s : KernelState) → StandsAt self.old s
             → LacksWhereRaised result (raises_input s pid name) }
+        ensures within { IfOk result (λ n. n ≤ length buf.old) }
         ensures terminal { self.new.terminal.bytes ≡ self.old.terminal.bytes }
         ensures watch { self.new.watch ≡ self.old.watch }
     {

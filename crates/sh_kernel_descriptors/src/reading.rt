@@ -1,5 +1,5 @@
 //! Reads, over the parts that they change.
-ghost use Rattle.std.specs.Prelude.{◌≡◌, ◌+◌, ◌-◌, ◌≤◌, ◌<◌, ◌++◌, ◌==◌, ℕ, List, false, length, take, drop};
+ghost use Rattle.std.specs.Prelude.{IfOk, ◌≡◌, ◌+◌, ◌-◌, ◌≤◌, ◌<◌, ◌++◌, ◌==◌, ℕ, List, false, length, take, drop};
 ghost use Rattle.sh_kernel_descriptors.specs.Closings.{Pipes};
 ghost use Rattle.sh_kernel_descriptors.specs.Kept.{Among, IsCounted, IsPaired, Linked, PipesAgree, pipe_kept};
 ghost use Rattle.sh_kernel_descriptors.specs.Outcomes.{GivesRead, GivesReadTo};
@@ -18,7 +18,8 @@ fn copy_out(content: &[u8], offset: usize, buf: &mut [u8]) -> usize
     ensures count { result ≡ length (take (length buf.old) (drop offset content.now)) }
     ensures buffer { buf.new ≡ take (length buf.old) (drop offset content.now)
         ++ drop result buf.old }
-    ensures within { offset + result ≤ offset + (length content.now - offset) }
+    ensures content { offset + result ≤ offset + (length content.now - offset) }
+    ensures within { result ≤ length buf.old }
 {
     if offset >= content.len() {
         return 0;
@@ -34,6 +35,7 @@ fn read_content(content: &[u8], offset: &mut usize, buf: &mut [u8]) -> usize
         ++ drop result buf.old }
     ensures count { result ≡ length (take (length buf.old) (drop offset.old content.now)) }
     ensures offset { offset.new ≡ offset.old + result }
+    ensures within { result ≤ length buf.old }
 {
     let count = copy_out(content, *offset, buf);
     *offset += count;
@@ -47,8 +49,9 @@ fn read_node(
     offset: &mut usize,
     buf: &mut [u8],
 ) -> Result<usize, KernelFault>
-    ensures { GivesRead result buf.old buf.new offset.new
+    ensures gives { GivesRead result buf.old buf.new offset.new
         (reading.read_node files.now node offset.old (length buf.old)) }
+    ensures within { IfOk result (λ n. n ≤ length buf.old) }
 {
     match files.node(node) {
         Some(Node::File(file)) => Ok(read_content(file.bytes(), offset, buf)),
@@ -72,6 +75,7 @@ pub fn read_file(
     ensures gives { (hs : List Held) (es : List TheDescription) → Among h hs → Linked hs entries.old es
         → GivesReadTo (Linked hs entries.new) result buf.old buf.new
         (reading.read_file files.now es h.descriptor.description node offset (length buf.old)) }
+    ensures within { IfOk result (λ n. n ≤ length buf.old) }
 {
     let mut place = offset;
     let result = read_node(files, node, &mut place, buf);
@@ -90,6 +94,7 @@ fn read_at(
         (reading.read_slot writer (length buf.old) (pipe_kept pipes.old.entries pipe)) }
     ensures others { (p : ℕ) → (pipe == p) ≡ false
         → pipe_kept pipes.new.entries p ≡ pipe_kept pipes.old.entries p }
+    ensures within { IfOk result (λ n. n ≤ length buf.old) }
 {
     let Some(channel) = pipes.get_mut(&pipe) else {
         return Err(KernelFault::BadDescriptor);
@@ -108,9 +113,10 @@ pub fn read_pipe(
     writer: bool,
     buf: &mut [u8],
 ) -> Result<usize, KernelFault>
-    ensures { (ps : Pipes) → PipesAgree pipes.old.entries ps
+    ensures gives { (ps : Pipes) → PipesAgree pipes.old.entries ps
         → GivesReadTo (PipesAgree pipes.new.entries) result buf.old buf.new
         (reading.read_pipe ps pipe writer (length buf.old)) }
+    ensures within { IfOk result (λ n. n ≤ length buf.old) }
 {
     read_at(pipes, pipe, writer, buf)
 }

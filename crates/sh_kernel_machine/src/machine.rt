@@ -5,7 +5,7 @@ mod processes;
 
 ghost use Rattle.sh_base.specs.Memory.{no_memory};
 ghost use Rattle.std.specs.Prelude.{◌≡◌};
-ghost use Rattle.std.specs.Prelude.{true, length, ◌+◌, ◌<◌, ◌≢◌, IfErr, IfNone, IfOk, IfSome, None, false, OnErr, OnOk, Some, ℕ, List, option_copied, slice_get};
+ghost use Rattle.std.specs.Prelude.{true, length, ◌+◌, ◌<◌, ◌≤◌, ◌≢◌, IfErr, IfNone, IfOk, IfSome, None, false, OnErr, OnOk, Some, ℕ, List, option_copied, slice_get};
 
 use crate::tables::{
     Tables, add_in, add_pipe_in, close_in, end_in, find_in, first_table, refer_in, rename_in,
@@ -146,6 +146,7 @@ impl Machine {
         ensures read { (s : MachineState) → StandsAt self.old s
             → IfSome result (λ given. (reads_terminal s pid name ≡ false)
             × GivesReadTo (StandsAt self.new) given buf.old buf.new (read_call s pid name (length buf.old))) }
+        ensures within { IfSome result (λ given. IfOk given (λ n. n ≤ length buf.old)) }
     {
         let Some(h) = self.look(pid, name) else {
             return Some(Err(KernelFault::BadDescriptor));
@@ -169,11 +170,12 @@ impl Machine {
         description: Description,
         buf: &mut [u8],
     ) -> Result<usize, KernelFault>
-        ensures { (s : MachineState) → StandsAt self.old s → Among h self.old.held
+        ensures gives { (s : MachineState) → StandsAt self.old s → Among h self.old.held
             → description_at self.old.entries h.key ≡ Some description
             → GivesReadTo (StandsAt self.new) result buf.old buf.new
             (read_target s (length buf.old) h.descriptor.description description.offset
             description.target) }
+        ensures within { IfOk result (λ n. n ≤ length buf.old) }
     {
         match description.target {
             Target::File(node) => read_file(

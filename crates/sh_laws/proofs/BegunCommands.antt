@@ -1,9 +1,9 @@
 -- Syntax that begins with an action is entered to one.
 use Rattle.std.proofs.Common.{◌≡◌, List, [], ◌∷◌, map, Bool, true, false, sym, ap, ◌∙◌, subst}
-use Rattle.sh_exec_entering.specs.Running.{Run}
+use Rattle.sh_exec_forms.specs.Running.{Run}
 use Rattle.sh_exec_parts.specs.Pipelines.{commands_of, is_negated}
-use Rattle.sh_exec_entering.specs.Entering.{and_or_run, background_of, command_entry, command_run, commands_run, commands_step, form_entry, is_subshell, item_run, list_run, pipeline_run, redirected, separated, to_enter, unless_subshell, with_negation, with_others}
-use Rattle.sh_exec_entering.proofs.Entered.{and_or_is, case_entered, compound_entered, compound_is, for_entered, for_parameters_entered, function_entered, group_entered, if_entered, item_is, list_with, loop_entered, pipeline_is, simple_entered, subshell_entered, trees_beside}
+use Rattle.sh_exec_forms.specs.Entering.{and_or_run, background_of, command_entry, command_run, commands_run, commands_step, form_entry, is_subshell, item_run, list_run, pipeline_run, redirected, separated, to_enter, unless_subshell, with_negation, with_others}
+use Rattle.sh_exec_forms.proofs.Entered.{and_or_is, case_entered, compound_entered, compound_is, for_entered, for_parameters_entered, function_entered, group_entered, if_entered, item_is, list_with, loop_entered, pipeline_is, simple_entered, subshell_entered, trees_beside}
 use Rattle.sh_syntax.specs.declared.tree.AndOr.{AndOr}
 use Rattle.sh_syntax.specs.declared.tree.Command.{Command}
 use Rattle.sh_syntax.specs.declared.tree.Command.TheOpen as layer

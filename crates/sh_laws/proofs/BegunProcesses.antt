@@ -1,11 +1,11 @@
 -- What begins with an action and is all that a process runs is entered to an action.
 use Rattle.std.proofs.Common.{◌≡◌, List, [], ◌∷◌, Option, Some, None, Bool, true, false, refl, sym, ap, ◌∙◌, subst}
-use Rattle.sh_exec_entering.specs.Running.{Run}
-use Rattle.sh_exec_entering.specs.Bodies.{body_of, own_entry, own_form, sole_and_or, sole_by, sole_item, sole_or_entered, sole_pipeline, sole_run, stage_run}
+use Rattle.sh_exec_forms.specs.Running.{Run}
+use Rattle.sh_exec_forms.specs.Bodies.{body_of, own_entry, own_form, sole_and_or, sole_by, sole_item, sole_or_entered, sole_pipeline, sole_run, stage_run}
 use Rattle.sh_exec_actions.specs.Statuses.{unexcused}
-use Rattle.sh_exec_entering.specs.Entering.{command_run, items_run}
-use Rattle.sh_exec_entering.proofs.Entered.{entered_with, trees_beside}
-use Rattle.sh_exec_entering.proofs.Alone.{and_or_is, body_as, body_is, case_alone, compound_command_alone, compound_is, for_alone, for_parameters_alone, function_alone, group_alone, if_alone, item_is, loop_alone, of_alone, of_negated, of_stages, simple_alone, subshell_alone}
+use Rattle.sh_exec_forms.specs.Entering.{command_run, items_run}
+use Rattle.sh_exec_forms.proofs.Entered.{entered_with, trees_beside}
+use Rattle.sh_exec_forms.proofs.Alone.{and_or_is, body_as, body_is, case_alone, compound_command_alone, compound_is, for_alone, for_parameters_alone, function_alone, group_alone, if_alone, item_is, loop_alone, of_alone, of_negated, of_stages, simple_alone, subshell_alone}
 use Rattle.sh_syntax.specs.declared.tree.AndOr.{AndOr}
 use Rattle.sh_syntax.specs.declared.tree.Command.{Command}
 use Rattle.sh_syntax.specs.declared.tree.Command.TheViews as view

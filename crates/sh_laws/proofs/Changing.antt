@@ -3,18 +3,18 @@ use Rattle.std.proofs.Common.{◌≡◌, ℕ, ◌<◌, List, [], ◌∷◌, ◌+
 use Rattle.sh_exec.specs.Turns.{turn}
 use Rattle.sh_exec.specs.Tasks.{pid_of}
 use Rattle.sh_exec.specs.declared.task.Task.{Task}
-use Rattle.sh_laws.specs.Forking.{UnmadeReachNothing}
+use Rattle.sh_laws.specs.Forking.{UnmadeReachNothing, after_child}
 use Rattle.sh_laws.proofs.RequestChanges.{forking_changes, forking_grows}
 use Rattle.sh_laws.proofs.RequestLists.{changes_reached, reaches_as_before}
 use Rattle.sh_laws.proofs.Reaching.{forking_reaches}
 use Rattle.sh_laws.proofs.Unmade.{unmade_stay, unmade_stay_forking}
 use Rattle.sh_exec_machine.specs.Forking.{fork_of}
-use Rattle.sh_exec.specs.Groups.{behind_fork_by, given_terminal, leader}
+use Rattle.sh_exec_turns.specs.Groups.{behind_fork_by, given_terminal, leader}
 use Rattle.sh_kernel_descriptors.specs.Machine.{MachineState}
 use Rattle.sh_kernel_processes.specs.Processes.{next_pid}
 use Rattle.sh_kernel.specs.Calls.{after_set_group}
 use Rattle.sh_kernel.specs.Laws.{ChangesOnlyReached, OnlyGrows, ReachesNoMore, opens, sends}
-use Rattle.sh_kernel.specs.Requests.{Request, SetAction, after_request}
+use Rattle.sh_kernel.specs.Requests.{Request, SetAction, after_request, after_requests}
 use Rattle.sh_kernel.specs.State.{KernelState}
 use Rattle.sh_kernel.proofs.Frames.{requests_change}
 use Rattle.sh_kernel.proofs.Growing.{grows_then, requests_grow}
@@ -25,10 +25,8 @@ use Rattle.sh_laws.specs.Requests.{ByRequests, ChangesByRequests, after_all, dir
 use Rattle.sh_laws.proofs.Lists.{by_then, fork_by, opens_append, own_more}
 use Rattle.sh_laws.proofs.Processes.{turn_keeps}
 use Rattle.sh_laws.proofs.TurnRequests.{IsForked, IsKept, after_making, set_requests}
-use Rattle.sh_laws.specs.Forking.{after_child}
-use Rattle.sh_kernel_signals.specs.declared.member.SignalAction.{SignalAction}
+use Rattle.sh_kernel_processes.specs.declared.member.SignalAction.{SignalAction}
 use Rattle.sh_signal.specs.declared.signal.Signal.{Signal}
-use Rattle.sh_kernel.specs.Requests.{after_requests}
 
 both_false : (a b : Bool) → a ≡ false → b ≡ false → (a || b) ≡ false
 both_false a b h k = ap (λ (x : Bool). x || b) h ∙ k

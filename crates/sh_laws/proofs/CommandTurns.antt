@@ -8,13 +8,14 @@ use Rattle.sh_builtin_environment.specs.Variables.{may_set}
 use Rattle.sh_exec_command.specs.Assigning.{Step, assign_turn, assigned_by, assigned_one, assignments_turn, behind, text_of, value_start, value_step, value_wanted}
 use Rattle.sh_exec_command.specs.Cases as cases
 use Rattle.sh_exec_command.specs.Cases.{branch_of, branch_turn, branches_of, case_turn, next_branch, pattern_by, pattern_turn, single, tried, word_by, word_from}
-use Rattle.sh_exec_command.specs.Expanding.{Turn, fatal, start_of, words_by, words_turn}
-use Rattle.sh_exec_actions.specs.Preparing.{ahead, ahead_by, exec_role, final_move, first_move, first_place, forks, nameless, not_done, performed_by, prepared_of, command_role, role_behind, role_by, role_of, role_run}
+use Rattle.sh_exec_command.specs.Expanding.{Turn, start_of, words_by, words_turn}
+use Rattle.sh_exec_actions.specs.Preparing.{fatal, ahead, ahead_by, exec_role, final_move, first_move, first_place, forks, nameless, not_done, performed_by, prepared_of, command_role, role_behind, role_by, role_of, role_run}
 use Rattle.sh_exec_command.specs.Redirects.{compound_role, redirected, redirects_by, redirects_turn, role_in, role_of_command}
 use Rattle.sh_exec_command.specs.Reading.{answer_of, found_behind, found_by, input_by, input_found, next_command}
 use Rattle.sh_exec_command.specs.declared.found.InputFound.{InputFound}
 use Rattle.sh_exec_command.specs.declared.found.InputFound.TheVariants as input
-use Rattle.sh_exec_command.specs.Series.{Given, give_by, give_turn, given_by, header_in, header_of, header_of_command, header_turn, rest_of_series, series_by, series_from, series_turn, word_of_series}
+use Rattle.sh_exec_command.specs.Series.{Given, give_by, give_turn, header_in, header_of, header_of_command, header_turn, series_by, series_from, series_turn, word_of_series}
+use Rattle.sh_exec_actions.specs.ForLoops.{given_by, rest_of_series}
 use Rattle.sh_exec_command.specs.declared.found.Found.{Found}
 use Rattle.sh_exec_actions.specs.Statuses.{unexcused}
 use Rattle.sh_exec_actions.specs.declared.status.CommandStatus.{CommandStatus}

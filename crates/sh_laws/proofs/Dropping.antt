@@ -8,23 +8,23 @@ use Rattle.sh_exec_actions.specs.declared.action.Action.{Action}
 use Rattle.sh_exec_actions.specs.declared.action.Action.TheVariants.{Reading, Prompting, ReadInput, Expanding, ReadSubstitution, WaitSubstitution, Asking, WaitForJob, Redirecting, Forking, Starting, ForkStage, ForkList, AssignLoopVariable, Defining, Waiting, Writing, Trapping, Ending}
 use Rattle.sh_exec_actions.specs.declared.action.Active.{Active}
 use Rattle.sh_exec_actions.specs.declared.action.Active.TheVariants.{Acting, Calling, Evaluating, Next, Done, Leaving}
-use Rattle.sh_exec_actions.specs.declared.action.Saved.{Saved}
-use Rattle.sh_exec_actions.specs.declared.action.Saved.TheVariants as saved
+use Rattle.sh_exec_parts.specs.declared.saved.Saved.{Saved}
+use Rattle.sh_exec_parts.specs.declared.saved.Saved.TheVariants as saved
 use Rattle.sh_exec_actions.specs.declared.action.Undo.{Undo}
 use Rattle.sh_exec_actions.specs.declared.form.Form.{Form}
 use Rattle.sh_exec_actions.specs.declared.form.Form.TheVariants.{Text, Input, Commands, Joined, Negated, Restoring, If, Condition, Body, ForBody, Call, Evaluation, Trapped, Interruption, FailuresIgnored}
 use Rattle.sh_exec_actions.specs.Statuses.{unexcused}
 use Rattle.sh_exec_actions.specs.declared.status.CommandStatus.{CommandStatus}
-use Rattle.sh_exec_command.specs.Series.{rest_of_series}
-use Rattle.sh_exec_command.specs.Undoing.{all_restored}
-use Rattle.sh_exec.proofs.Outward.{by_forms}
-use Rattle.sh_exec.specs.Forms.{Acted, after, after_by, after_leave, after_status, at_action, condition_run, dropped_in_text, goes_on_reading, input_left, loop_left, onward, outward, place_left, undone, with_run}
-use Rattle.sh_exec_entering.specs.Running.{Run, At, In}
-use Rattle.sh_exec_entering.specs.Stacks.{run_in, run_of}
-use Rattle.sh_exec_frames.specs.Frames.{has_loop}
-use Rattle.sh_exec_requests.specs.Signals.{after_drop}
-use Rattle.sh_exec.specs.Reduction.{drop_at, drop_first, dropped_run, rooted}
-use Rattle.sh_exec.specs.Traps.{drops_before}
+use Rattle.sh_exec_actions.specs.ForLoops.{rest_of_series}
+use Rattle.sh_exec_parts.specs.Saving.{all_restored}
+use Rattle.sh_exec_settling.proofs.Outward.{by_forms}
+use Rattle.sh_exec_settling.specs.Forms.{Acted, after, after_by, after_leave, after_status, at_action, condition_run, dropped_in_text, goes_on_reading, input_left, loop_left, onward, outward, place_left, undone, with_run}
+use Rattle.sh_exec_forms.specs.Running.{Run, At, In}
+use Rattle.sh_exec_forms.specs.Stacks.{run_in, run_of}
+use Rattle.sh_exec_forms.specs.Frames.{has_loop}
+use Rattle.sh_exec_signals.specs.Signals.{after_drop}
+use Rattle.sh_exec_shell.specs.Reduction.{drop_at, drop_first, dropped_run, rooted}
+use Rattle.sh_exec_turns.specs.Traps.{drops_before}
 use Rattle.sh_kernel.specs.State.{KernelState}
 use Rattle.sh_vars.specs.Environment.{Environment}
 
@@ -99,7 +99,7 @@ place_stays around s shell (Forking p) l = refl
 place_stays around s shell (Starting start) l = refl
 place_stays around s shell (ForkStage stages) l = refl
 place_stays around s shell (ForkList list) l = refl
-place_stays around s shell (AssignLoopVariable series) l = refl
+place_stays around s shell (AssignLoopVariable series) l = loop_stays (has_loop around) l s shell (At (rest_of_series series (unexcused 0)))
 place_stays around s shell (Defining definition) l = refl
 place_stays around s shell (Waiting wait) l = refl
 place_stays around s shell (Writing piece finish) l = refl

@@ -21,7 +21,7 @@ use Rattle.sh_exec_actions.specs.declared.action.Expanded.{Expanded}
 use Rattle.sh_exec_actions.specs.declared.action.Expanded.TheVariants as expanded
 use Rattle.sh_exec_actions.specs.declared.action.ExpandedCommand.{ExpandedCommand}
 use Rattle.sh_exec_actions.specs.declared.action.Finish.{Finish}
-use Rattle.sh_exec_actions.specs.Answers.{Pending}
+use Rattle.sh_expand.specs.Answers.{Pending}
 use Rattle.sh_exec_actions.specs.declared.action.Stages.{Stages}
 use Rattle.sh_exec_actions.specs.declared.action.Substitution.{Substitution}
 use Rattle.sh_exec_actions.specs.declared.action.ToExpand.{ToExpand}
@@ -31,14 +31,14 @@ use Rattle.sh_exec_actions.specs.declared.form.Form.{Form}
 use Rattle.sh_exec_actions.specs.declared.form.Form.TheVariants.{Text, Input, Commands, Joined, Negated, Restoring, If, Condition, Body, ForBody, Call, Evaluation, Trapped, Interruption, FailuresIgnored}
 use Rattle.sh_exec_actions.specs.declared.status.CommandStatus.{CommandStatus}
 use Rattle.sh_exec_command.specs.Defining.{define_by, define_turn}
-use Rattle.sh_exec_command.specs.Series.{rest_of_series}
-use Rattle.sh_exec_requests.specs.Reporting.{behind}
-use Rattle.sh_exec.specs.Builtins.{builtin_effect, call, effect_at, evaluation, performed}
-use Rattle.sh_exec.specs.Forms.{Acted, after, after_by, after_leave, after_status, at_action, condition_run, loop_left, onward, undone, with_run, dropped_in_text, goes_on_reading, input_left, place_left}
+use Rattle.sh_exec_actions.specs.ForLoops.{rest_of_series}
+use Rattle.sh_exec_signals.specs.Reporting.{behind}
+use Rattle.sh_exec_settling.specs.Builtins.{builtin_effect, call, effect_at, evaluation, performed}
+use Rattle.sh_exec_settling.specs.Forms.{Acted, after, after_by, after_leave, after_status, at_action, condition_run, loop_left, onward, undone, with_run, dropped_in_text, goes_on_reading, input_left, place_left}
 use Rattle.sh_builtin_environment.specs.TrapMaps.{action_of}
 use Rattle.sh_signal.specs.declared.condition.Condition.TheVariants.{Exit}
-use Rattle.sh_exec_frames.specs.Frames.{has_loop, last_for, levels_left}
-use Rattle.sh_exec_entering.specs.Running.{Run, At, In}
+use Rattle.sh_exec_forms.specs.Frames.{has_loop, last_for, levels_left}
+use Rattle.sh_exec_forms.specs.Running.{Run, At, In}
 use Rattle.sh_exec_machine.specs.Forking.{fork_of}
 use Rattle.sh_exec_machine.specs.Transfers.{take_bytes, Giving, give_bytes}
 use Rattle.sh_exec_machine.specs.Waits.{wait_status}
@@ -47,27 +47,27 @@ use Rattle.sh_exec_machine.specs.declared.transfer.ReadOutcome.TheVariants as ta
 use Rattle.sh_exec_parts.specs.Simple.{Opened}
 use Rattle.sh_exec_parts.specs.declared.message.Piece.{Piece}
 use Rattle.sh_exec_parts.specs.declared.redirection.Redirection.{Redirection}
-use Rattle.sh_exec.specs.Acting.{after_collection, collect_by, collect_end, collect_from, collect_turn, end_turn, expand_turn, next, redirect_from, redirect_one, redirect_turn, trap_by, trap_turn, with_written, write_turn}
-use Rattle.sh_exec_requests.specs.Placed.{Placed, at_place}
-use Rattle.sh_builtin_shell.specs.Shells.{has_job_control}
+use Rattle.sh_exec_turns.specs.Acting.{after_collection, collect_by, collect_end, collect_from, collect_turn, end_turn, expand_turn, next, redirect_from, redirect_one, redirect_turn, trap_by, trap_turn, with_written, write_turn}
+use Rattle.sh_exec_signals.specs.Placed.{Placed, at_place}
+use Rattle.sh_builtin_shell.specs.Shells.{has_job_control, up_to_date}
 use Rattle.sh_exec_actions.specs.declared.action.PipelineWait.{PipelineWait}
 use Rattle.sh_builtin_outcome.specs.declared.rest.JobWait.{JobWait}
-use Rattle.sh_exec_requests.specs.JobWaits.{job_ended, job_wait_by, job_wait_turn}
-use Rattle.sh_exec_requests.specs.Waiting.{controlled_by, terminal_back, wait_turn, wait_with}
+use Rattle.sh_exec_waiting.specs.JobWaits.{job_ended, job_wait_by, job_wait_turn}
+use Rattle.sh_exec_waiting.specs.Waiting.{controlled_by, terminal_back, wait_turn, wait_with}
 use Rattle.sh_jobs.specs.States.{state_of}
 use Rattle.sh_jobs.specs.declared.state.JobState.{JobState}
 use Rattle.sh_jobs.specs.declared.state.JobState.TheVariants.{Running, Suspended}
 use Rattle.sh_jobs.specs.declared.state.JobState.TheVariants as state
-use Rattle.sh_exec.specs.Traps.{interrupted, interruption, shell_before, trap_before}
+use Rattle.sh_exec_turns.specs.Traps.{interrupted, interruption, shell_before, trap_before}
 use Rattle.sh_kernel.specs.Calls.{after_take_signal}
-use Rattle.sh_exec_requests.specs.Asking.{ask_by, ask_turn, asked}
-use Rattle.sh_exec_requests.specs.ReadLimit.{most_read}
-use Rattle.sh_builtin.specs.Answer.{Answer}
+use Rattle.sh_exec_waiting.specs.Asking.{ask_by, ask_turn, asked}
+use Rattle.sh_exec_signals.specs.ReadLimit.{most_read}
+use Rattle.sh_builtin_asking.specs.declared.answer.Answer.{Answer}
 use Rattle.sh_builtin_outcome.specs.declared.rest.BuiltinRest.{BuiltinRest}
 use Rattle.sh_laws.proofs.Resuming.{resumed_same}
-use Rattle.sh_exec.specs.Forks.{background_input, begun_substitution, fork_turn, is_foreground, is_more, launch_by, list_by, list_turn, made_shell, program_by, stage_by, stage_from, stage_input, stage_one, stage_shell, stage_turn, substitute_turn, substitution_by}
-use Rattle.sh_exec.specs.Groups.{behind_fork, released_fork}
-use Rattle.sh_exec.specs.Reduction.{act_at, act_behind, act_place, expanded_by, reduce}
+use Rattle.sh_exec_shell.specs.Forks.{background_input, begun_substitution, fork_turn, is_foreground, is_more, launch_by, list_by, list_turn, made_shell, program_by, stage_by, stage_from, stage_input, stage_one, stage_shell, stage_turn, substitute_turn, substitution_by}
+use Rattle.sh_exec_turns.specs.Groups.{behind_fork, released_fork}
+use Rattle.sh_exec_shell.specs.Reduction.{act_at, act_behind, act_place, expanded_by, reduce}
 use Rattle.sh_kernel.specs.State.{KernelState}
 use Rattle.sh_kernel_descriptors.specs.declared.descriptor.DescriptorRef.TheVariants.{Aside, Number}
 use Rattle.sh_syntax.specs.declared.tree.AndOr.{AndOr}
@@ -85,9 +85,8 @@ use Rattle.sh_laws.specs.Beginnings.{CommandBegins, FormBegins, RedirectsBegin, 
 use Rattle.sh_builtin_environment.specs.declared.outcome.BuiltinFault.{BuiltinFault}
 use Rattle.sh_builtin_jobs.specs.Listing.{jobs_of, job_lines}
 use Rattle.sh_builtin_jobs.specs.declared.listing.JobsCommand.{JobsCommand}
-use Rattle.sh_builtin_shell.specs.Shells.{up_to_date}
-use Rattle.sh_exec_requests.specs.Prompting.{behind_job, is_waiting, job_to_tell, prompt_by, prompt_of, prompt_turn, stays, with_job_told}
-use Rattle.sh_exec.specs.Input.{input_taken, input_turn}
+use Rattle.sh_exec_signals.specs.Prompting.{behind_job, is_waiting, job_to_tell, prompt_by, prompt_of, prompt_turn, stays, with_job_told}
+use Rattle.sh_exec_turns.specs.Input.{input_taken, input_turn}
 use Rattle.sh_jobs.specs.declared.line.JobForm.TheVariants.{Short}
 
 -- ---- some functions less, and one more
@@ -254,7 +253,7 @@ place_left_keeps around s shell (Forking p) l f = f
 place_left_keeps around s shell (Starting start) l f = f
 place_left_keeps around s shell (ForkStage stages) l f = f
 place_left_keeps around s shell (ForkList list) l f = f
-place_left_keeps around s shell (AssignLoopVariable series) l f = f
+place_left_keeps around s shell (AssignLoopVariable series) l f = loop_left_keeps (has_loop around) l s shell (At (rest_of_series series (unexcused 0))) f
 place_left_keeps around s shell (Defining definition) l f = f
 place_left_keeps around s shell (Waiting wait) l f = f
 place_left_keeps around s shell (Writing piece finish) l f = f

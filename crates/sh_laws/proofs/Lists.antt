@@ -10,7 +10,7 @@ use Rattle.sh_kernel.specs.State.{KernelState}
 use Rattle.sh_stock.specs.Asking.{Meaning}
 use Rattle.sh_laws.specs.Requests.{AllBy, ByRequests, after_all, directory_of, number_of, opens_by}
 use Rattle.sh_laws.proofs.Processes.{turn_keeps}
-use Rattle.sh_kernel_signals.specs.declared.member.SignalAction.{SignalAction}
+use Rattle.sh_kernel_processes.specs.declared.member.SignalAction.{SignalAction}
 use Rattle.sh_signal.specs.declared.signal.Signal.{Signal}
 use Rattle.sh_laws.proofs.TurnRequests.{IsKept, after_making, fork_keeps}
 

@@ -13,9 +13,9 @@ use Rattle.sh_files.specs.declared.search.Located.TheVariants as located
 use Rattle.sh_exec_actions.specs.declared.action.Action.{Action}
 use Rattle.sh_exec_actions.specs.declared.action.Active.{Active}
 use Rattle.sh_exec_actions.specs.declared.action.Active.TheVariants.{Acting, Calling, Evaluating, Next, Done, Leaving}
-use Rattle.sh_exec_entering.specs.Running.{Run, At, In, InterpreterState, active_of, with_active}
+use Rattle.sh_exec_forms.specs.Running.{Run, At, In, InterpreterState, active_of, with_active}
 use Rattle.sh_kernel.specs.State.{KernelState}
-use Rattle.sh_exec.specs.Reduction.{shell_turn}
+use Rattle.sh_exec_shell.specs.Reduction.{shell_turn}
 use Rattle.sh_laws.proofs.ShellTurns.{shell_stands}
 use Rattle.sh_laws.specs.BeforeAction.{ActiveStands, ChildStands, InterpreterStands, IsBeforeAction, IsNext, MadeStands, PlaceHolds, RunStands, TaskStands}
 use Rattle.sh_stock.specs.Asking.{Meaning}

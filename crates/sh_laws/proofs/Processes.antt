@@ -12,11 +12,11 @@ use Rattle.sh_exec.specs.declared.task.Task.TheVariants.{Runs, Asks}
 use Rattle.sh_builtin_shell.specs.declared.shell.Shell.{Shell}
 use Rattle.sh_files.specs.declared.search.Located.{Located}
 use Rattle.sh_files.specs.declared.search.Located.TheVariants as located
-use Rattle.sh_exec_entering.specs.Running.{InterpreterState, active_of}
+use Rattle.sh_exec_forms.specs.Running.{InterpreterState, active_of}
 use Rattle.sh_kernel_descriptors.specs.declared.descriptor.DescriptorRef.TheVariants.{Number}
 use Rattle.sh_kernel.specs.Requests.{End, Kill, StartProgram}
 use Rattle.sh_kernel.specs.State.{KernelState}
-use Rattle.sh_kernel_signals.specs.declared.target.SignalTarget.TheVariants.{Process}
+use Rattle.sh_kernel_processes.specs.declared.target.SignalTarget.TheVariants.{Process}
 use Rattle.sh_signal.specs.declared.signal.Signal.TheVariants.{Stop}
 use Rattle.sh_stock.specs.Asking.{Meaning}
 use Rattle.sh_stock.specs.declared.asking.Ask.{Ask}
@@ -24,8 +24,8 @@ use Rattle.sh_stock.specs.declared.asking.Ask.TheVariants as ask
 use Rattle.sh_laws.specs.Requests.{directory_of, made_number, number_of}
 use Rattle.sh_laws.proofs.TurnRequests.{IsForked, IsKept, give_keeps, take_keeps}
 use Rattle.sh_laws.proofs.TurnSteps.{shell_keeps, own_signals_keep}
-use Rattle.sh_exec.specs.Forks as shell
-use Rattle.sh_exec.specs.Reduction.{shell_turn}
+use Rattle.sh_exec_shell.specs.Forks as shell
+use Rattle.sh_exec_shell.specs.Reduction.{shell_turn}
 use Rattle.sh_kernel.specs.Calls.{start_call}
 
 -- a process that was made is called by the number that its shell has

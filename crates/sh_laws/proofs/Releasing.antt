@@ -4,11 +4,11 @@ use Rattle.std.specs.Prelude.{if◌then◌else◌}
 use Rattle.sh_builtin_environment.specs.TrapMaps.{action_of}
 use Rattle.sh_builtin_shell.specs.Shells.{is_interactive}
 use Rattle.sh_builtin_shell.specs.declared.shell.Shell.{Shell}
-use Rattle.sh_exec_requests.specs.Signals.{after_release, after_releases, own_ignored, released_action}
-use Rattle.sh_exec.specs.Groups.{released}
+use Rattle.sh_exec_signals.specs.Signals.{after_release, after_releases, own_ignored, released_action}
+use Rattle.sh_exec_turns.specs.Groups.{released}
 use Rattle.sh_kernel.specs.Requests.{after_requests}
 use Rattle.sh_kernel.specs.State.{KernelState}
-use Rattle.sh_kernel_signals.specs.declared.member.SignalAction.{SignalAction}
+use Rattle.sh_kernel_processes.specs.declared.member.SignalAction.{SignalAction}
 use Rattle.sh_laws.proofs.TurnRequests.{set_requests}
 use Rattle.sh_laws.specs.Forking.{after_child}
 use Rattle.sh_signal.specs.declared.condition.Condition.TheVariants.{Caught}

@@ -1,10 +1,10 @@
 -- What is left of a built-in behind an answer leaves the shell its number and its functions.
 use Rattle.std.proofs.Common.{◌≡◌, ℕ, List, [], ◌∷◌, length, Bool, true, false, refl}
 use Rattle.std.specs.Prelude.{if◌then◌else◌, nat_eq}
-use Rattle.sh_builtin.specs.Resuming.{background_continued, continue_resumed, job_continued, kill_resumed, line_by, line_ended, line_read, line_resumed, resumed, wait_ended, wait_resumed, without_target}
-use Rattle.sh_builtin.specs.BuiltIns.{with_outcome}
-use Rattle.sh_builtin.specs.Answer.{Answer}
-use Rattle.sh_builtin.specs.Answer.TheVariants.{Bytes, Ended, Caught, Sent, Continued}
+use Rattle.sh_builtin_asking.specs.Resuming.{background_continued, continue_resumed, job_continued, kill_resumed, line_by, line_ended, line_read, line_resumed, resumed, wait_ended, wait_resumed, without_target}
+use Rattle.sh_builtin_asking.specs.BuiltIns.{with_outcome}
+use Rattle.sh_builtin_asking.specs.declared.answer.Answer.{Answer}
+use Rattle.sh_builtin_asking.specs.declared.answer.Answer.TheVariants.{Bytes, Ended, Caught, Sent, Continued}
 use Rattle.sh_builtin_jobs.specs.declared.continuing.ContinuedJob.{ContinuedJob}
 use Rattle.sh_builtin_jobs.specs.declared.run.KillAsk.{KillAsk}
 use Rattle.sh_builtin_outcome.specs.Outcomes.{reading}

@@ -12,7 +12,7 @@ use Rattle.sh_builtin_outcome.specs.declared.outcome.Outcome.{Outcome}
 use Rattle.sh_builtin_outcome.specs.declared.outcome.Leave.{Leave}
 use Rattle.sh_builtin_outcome.specs.declared.outcome.Leave.TheVariants as leave
 use Rattle.sh_builtin_outcome.specs.declared.builtin.Builtin.{Builtin}
-use Rattle.sh_exec_command.specs.Series.{given_by, rest_of_series}
+use Rattle.sh_exec_actions.specs.ForLoops.{given_by, rest_of_series}
 use Rattle.sh_exec_actions.specs.Statuses.{unexcused}
 use Rattle.sh_exec_actions.specs.declared.beginning.Beginning.{Beginning}
 use Rattle.sh_exec_actions.specs.declared.status.CommandStatus.{CommandStatus}
@@ -23,13 +23,13 @@ use Rattle.sh_exec_actions.specs.declared.action.Active.TheVariants.{Acting, Cal
 use Rattle.sh_exec_actions.specs.declared.action.ForLoop.{ForLoop}
 use Rattle.sh_exec_actions.specs.declared.action.Report.{Report}
 use Rattle.sh_exec_actions.specs.declared.action.Undo.{Undo}
-use Rattle.sh_exec_entering.proofs.Entered.{entered_with}
-use Rattle.sh_exec.specs.Builtins.{builtin_effect, call, effect_at, evaluation, performed}
-use Rattle.sh_exec_requests.specs.Reporting.{at_completion, behind, output_of, reported, said}
-use Rattle.sh_exec_entering.specs.Entering.{items_run, list_run, pipeline_run, with_others}
-use Rattle.sh_exec.specs.Forms.{Acted, after, after_by, after_call, after_leave, after_status, after_text, at_action, behind_condition, branch, condition_run, connected_run, goes_on, loop_left, onward, otherwise, returned, runs, undone, ended_within, exits_on_error, is_failure, left_within, within, within_run, behind_status, dropped_in_text, goes_on_reading, input_left, place_left}
-use Rattle.sh_exec_frames.specs.Frames.{ends_action, may_return, has_loop, is_failure_ignored, last_for, levels_left}
-use Rattle.sh_exec_entering.specs.Running.{Run, At, In}
+use Rattle.sh_exec_forms.proofs.Entered.{entered_with}
+use Rattle.sh_exec_settling.specs.Builtins.{builtin_effect, call, effect_at, evaluation, performed}
+use Rattle.sh_exec_signals.specs.Reporting.{at_completion, behind, output_of, reported, said}
+use Rattle.sh_exec_forms.specs.Entering.{items_run, list_run, pipeline_run, with_others}
+use Rattle.sh_exec_settling.specs.Forms.{Acted, after, after_by, after_call, after_leave, after_status, after_text, at_action, behind_condition, branch, condition_run, connected_run, goes_on, loop_left, onward, otherwise, returned, runs, undone, ended_within, exits_on_error, is_failure, left_within, within, within_run, behind_status, dropped_in_text, goes_on_reading, input_left, place_left}
+use Rattle.sh_exec_forms.specs.Frames.{ends_action, may_return, has_loop, is_failure_ignored, last_for, levels_left}
+use Rattle.sh_exec_forms.specs.Running.{Run, At, In}
 use Rattle.sh_exec_actions.specs.declared.form.Branches.{Branches}
 use Rattle.sh_exec_actions.specs.declared.form.Form.{Form}
 use Rattle.sh_exec_actions.specs.declared.form.Form.TheVariants.{Text, Input, Commands, Joined, Negated, Restoring, If, Condition, Body, ForBody, Call, Evaluation, Trapped, Interruption, FailuresIgnored}
@@ -46,7 +46,7 @@ use Rattle.sh_laws.specs.Beginnings.{CommandBegins, ConnectedBegin, ElseBegins, 
 use Rattle.sh_laws.proofs.BegunCommands.{command_stands, item_stands, list_stands, others_stand, pipeline_stands}
 use Rattle.sh_laws.proofs.CommandTurns.{ActiveHolds, choose}
 use Rattle.sh_exec_actions.specs.Beginnings.{not_begun}
-use Rattle.sh_exec_requests.specs.Prompting.{has_prompt, input_action}
+use Rattle.sh_exec_signals.specs.Prompting.{has_prompt, input_action}
 
 -- ---- what runs holds only what begins with an action
 abbrev pub Holds : Run → Type 0
@@ -265,26 +265,27 @@ dropped_settled true s shell rest (leave.Break inside) = tt
 dropped_settled true s shell rest (leave.Continue inside) = tt
 dropped_settled false s shell rest l = tt
 
-place_left_settled : (around : List Form) (s : KernelState) (shell : Shell) (next : Action) (l : Leave) → ActedSettled (place_left around s shell next l)
-place_left_settled around s shell (Reading rest status) l = dropped_settled (goes_on_reading around shell) s shell rest l
-place_left_settled around s shell (Prompting beginning) l = tt
-place_left_settled around s shell (ReadInput beginning) l = input_left_settled s shell l
-place_left_settled around s shell (Expanding wants pending) l = tt
-place_left_settled around s shell (ReadSubstitution substitution) l = tt
-place_left_settled around s shell (WaitSubstitution substitution) l = tt
-place_left_settled around s shell (Asking rest) l = tt
-place_left_settled around s shell (WaitForJob wait) l = tt
-place_left_settled around s shell (Redirecting p) l = tt
-place_left_settled around s shell (Forking p) l = tt
-place_left_settled around s shell (Starting start) l = tt
-place_left_settled around s shell (ForkStage stages) l = tt
-place_left_settled around s shell (ForkList list) l = tt
-place_left_settled around s shell (AssignLoopVariable series) l = tt
-place_left_settled around s shell (Defining definition) l = tt
-place_left_settled around s shell (Waiting wait) l = tt
-place_left_settled around s shell (Writing piece finish) l = tt
-place_left_settled around s shell (Trapping status) l = tt
-place_left_settled around s shell (Ending status) l = tt
+place_left_settled : (around : List Form) (s : KernelState) (shell : Shell) (next : Action) (l : Leave) → PlaceHolds next → ActedSettled (place_left around s shell next l)
+place_left_settled around s shell (Reading rest status) l h = dropped_settled (goes_on_reading around shell) s shell rest l
+place_left_settled around s shell (Prompting beginning) l h = tt
+place_left_settled around s shell (ReadInput beginning) l h = input_left_settled s shell l
+place_left_settled around s shell (Expanding wants pending) l h = tt
+place_left_settled around s shell (ReadSubstitution substitution) l h = tt
+place_left_settled around s shell (WaitSubstitution substitution) l h = tt
+place_left_settled around s shell (Asking rest) l h = tt
+place_left_settled around s shell (WaitForJob wait) l h = tt
+place_left_settled around s shell (Redirecting p) l h = tt
+place_left_settled around s shell (Forking p) l h = tt
+place_left_settled around s shell (Starting start) l h = tt
+place_left_settled around s shell (ForkStage stages) l h = tt
+place_left_settled around s shell (ForkList list) l h = tt
+place_left_settled around s shell (AssignLoopVariable series) l h =
+    left_settled (has_loop around) l s shell (At (rest_of_series series (unexcused 0))) (given_by_settled series series.values (unexcused 0) h)
+place_left_settled around s shell (Defining definition) l h = tt
+place_left_settled around s shell (Waiting wait) l h = tt
+place_left_settled around s shell (Writing piece finish) l h = tt
+place_left_settled around s shell (Trapping status) l h = tt
+place_left_settled around s shell (Ending status) l h = tt
 
 status_settled : (around : List Form) (form : Form) (s : KernelState) (shell : Shell) (status : CommandStatus) → FormHolds form → ActedSettled (after_status around form s shell status)
 status_settled around (Text rest) s shell status h = tt
@@ -317,7 +318,7 @@ leave_settled around (ForBody series) s shell l h = left_settled (has_loop aroun
 leave_settled around (Call positional) s shell l h = call_left_settled around l shell
 leave_settled around (Evaluation how) s shell l h = text_left_settled around how.origin l shell
 leave_settled around (Trapped before) s shell l h = tt
-leave_settled around (Interruption before next) s shell l h = place_left_settled around s shell next l
+leave_settled around (Interruption before next) s shell l h = place_left_settled around s shell next l h
 leave_settled around FailuresIgnored s shell l h = tt
 
 after_by_settled : (around : List Form) (form : Form) (s : KernelState) (shell : Shell) (run : Run) → FormHolds form → Settled run → ActedSettled (after_by around form s shell run)

@@ -18,11 +18,11 @@ use Rattle.sh_exec_actions.specs.declared.action.Active.TheVariants.{Acting, Cal
 use Rattle.sh_exec_actions.specs.declared.action.Expanded.{Expanded}
 use Rattle.sh_exec_actions.specs.declared.action.Expanded.TheVariants as expanded
 use Rattle.sh_exec_actions.specs.declared.action.Finish.{Finish}
-use Rattle.sh_exec_entering.specs.Bodies.{body_of}
+use Rattle.sh_exec_forms.specs.Bodies.{body_of}
 use Rattle.sh_exec_actions.specs.declared.action.Finish.TheVariants.{Status, Fault, Messages, Output}
 use Rattle.sh_exec_actions.specs.declared.action.Move.{Move}
 use Rattle.sh_exec_actions.specs.declared.action.Move.TheVariants as move
-use Rattle.sh_exec_actions.specs.Answers.{Pending}
+use Rattle.sh_expand.specs.Answers.{Pending}
 use Rattle.sh_exec_actions.specs.declared.action.Action.{Action}
 use Rattle.sh_exec_actions.specs.declared.action.Action.TheVariants.{Reading, Prompting, ReadInput, Expanding, ReadSubstitution, WaitSubstitution, Asking, WaitForJob, Redirecting, Forking, Starting, ForkStage, ForkList, AssignLoopVariable, Defining, Waiting, Writing, Trapping, Ending}
 use Rattle.sh_exec_actions.specs.declared.action.ExpandedCommand.{ExpandedCommand}
@@ -33,14 +33,14 @@ use Rattle.sh_exec_actions.specs.declared.action.ToExpand.{ToExpand}
 use Rattle.sh_exec_actions.specs.declared.action.ToExpand.TheVariants.{Words, Values, Redirects, ForWords, CaseWord, CasePattern}
 use Rattle.sh_exec_command.specs.declared.series.Round.{Round}
 use Rattle.sh_exec_command.specs.declared.series.Round.TheVariants as round
-use Rattle.sh_exec_entering.specs.Entering.{form_entry, form_of_command, form_run, items_run, list_run}
-use Rattle.sh_exec_entering.specs.Moves.{move_run}
-use Rattle.sh_exec_entering.proofs.Entered.{list_is}
-use Rattle.sh_exec.specs.Forms.{Acted, behind_status, with_run, goes_on_reading, at_action}
-use Rattle.sh_exec_frames.specs.Frames.{ends_shell, is_failure_ignored, levels_left}
+use Rattle.sh_exec_forms.specs.Entering.{form_entry, form_of_command, form_run, items_run, list_run}
+use Rattle.sh_exec_forms.specs.Moves.{move_run}
+use Rattle.sh_exec_forms.proofs.Entered.{list_is}
+use Rattle.sh_exec_settling.specs.Forms.{Acted, behind_status, with_run, goes_on_reading, at_action}
+use Rattle.sh_exec_forms.specs.Frames.{ends_shell, is_failure_ignored, levels_left}
 use Rattle.sh_exec_actions.specs.declared.beginning.Beginning.{Beginning}
 use Rattle.sh_exec_actions.specs.declared.form.Form.{Form}
-use Rattle.sh_exec_entering.specs.Running.{Run, At, In, InterpreterState, active_of}
+use Rattle.sh_exec_forms.specs.Running.{Run, At, In, InterpreterState, active_of}
 use Rattle.sh_exec_machine.specs.Forking.{fork_of}
 use Rattle.sh_exec_machine.specs.Redirecting.{redirection_outcome}
 use Rattle.sh_exec_machine.specs.Transfers.{give_bytes, take_bytes}
@@ -52,33 +52,32 @@ use Rattle.sh_exec_machine.specs.declared.undone.Undone.{Undone}
 use Rattle.sh_exec_parts.specs.declared.message.Piece.{Piece}
 use Rattle.sh_exec_parts.specs.declared.redirection.Redirection.{Redirection}
 use Rattle.sh_exec_parts.specs.declared.simple.Assignment.{Assignment}
-use Rattle.sh_exec.specs.Acting.{after_collection, collect_by, collect_end, collect_from, collect_turn, end_turn, ending_by, expand_turn, keeps, next, read_turn, redirect_by, redirect_from, redirect_one, redirect_turn, round_run, trap_by, trap_turn, with_undo, with_written, without_trap, write_turn}
+use Rattle.sh_exec_turns.specs.Acting.{after_collection, collect_by, collect_end, collect_from, collect_turn, end_turn, ending_by, expand_turn, keeps, next, read_turn, redirect_by, redirect_from, redirect_one, redirect_turn, round_run, trap_by, trap_turn, with_undo, with_written, without_trap, write_turn}
 use Rattle.sh_exec_actions.specs.declared.action.PipelineWait.{PipelineWait}
 use Rattle.sh_builtin_outcome.specs.declared.rest.JobWait.{JobWait}
-use Rattle.sh_exec_requests.specs.JobWaits.{job_ended, job_wait_by, job_wait_turn, with_suspended}
-use Rattle.sh_exec_requests.specs.Waiting.{answer_by, answer_turn, controlled_by, job_line, terminal_back, told, wait_by, wait_turn, wait_with, with_substitution, is_brought_back, waited}
-use Rattle.sh_exec_machine.specs.Waits.{signal_status}
+use Rattle.sh_exec_waiting.specs.JobWaits.{job_ended, job_wait_by, job_wait_turn, with_suspended}
+use Rattle.sh_exec_waiting.specs.Waiting.{answer_by, answer_turn, controlled_by, job_line, terminal_back, told, wait_by, wait_turn, wait_with, with_substitution, is_brought_back, waited}
+use Rattle.sh_exec_machine.specs.Waits.{signal_status, wait_status}
 use Rattle.sh_jobs.specs.States.{state_of}
 use Rattle.sh_jobs.specs.Table.{free_number}
 use Rattle.sh_jobs.specs.declared.state.JobState.{JobState}
 use Rattle.sh_jobs.specs.declared.state.JobState.TheVariants.{Running, Suspended}
 use Rattle.sh_jobs.specs.declared.state.JobState.TheVariants as state
-use Rattle.sh_exec_requests.specs.Writing.{after_writing, unwritten, written_by}
-use Rattle.sh_exec_requests.specs.Placed.{Placed, at_place}
-use Rattle.sh_exec_requests.specs.Signals.{after_drop}
-use Rattle.sh_exec.specs.Traps.{interrupted, interruption, shell_before, trap_before, drops_before}
+use Rattle.sh_exec_waiting.specs.Writing.{after_writing, unwritten, written_by}
+use Rattle.sh_exec_signals.specs.Placed.{Placed, at_place}
+use Rattle.sh_exec_signals.specs.Signals.{after_drop}
+use Rattle.sh_exec_turns.specs.Traps.{interrupted, interruption, shell_before, trap_before, drops_before}
 use Rattle.sh_kernel.specs.Calls.{after_take_signal}
 use Rattle.sh_builtin_shell.specs.Shells.{after_suspension, has_job_control, up_to_date, is_interactive}
-use Rattle.sh_exec_requests.specs.Asking.{ask_by, ask_turn, asked}
-use Rattle.sh_exec_requests.specs.ReadLimit.{most_read}
-use Rattle.sh_builtin.specs.Resuming.{resumed}
-use Rattle.sh_builtin.specs.Answer.{Answer}
+use Rattle.sh_exec_waiting.specs.Asking.{ask_by, ask_turn, asked}
+use Rattle.sh_exec_signals.specs.ReadLimit.{most_read}
+use Rattle.sh_builtin_asking.specs.Resuming.{resumed}
+use Rattle.sh_builtin_asking.specs.declared.answer.Answer.{Answer}
 use Rattle.sh_builtin_outcome.specs.Rests.{asker_of}
 use Rattle.sh_builtin_outcome.specs.declared.rest.BuiltinRest.{BuiltinRest}
-use Rattle.sh_exec.specs.Forks.{background_input, begun_substitution, Turned, fork_failure, fork_turn, inherited, is_foreground, is_more, launch_by, list_by, list_turn, made_place, program_by, stage_by, stage_from, stage_input, stage_one, stage_place, stage_turn, substitute_turn, substitution_by, place_of_none, launched_by}
-use Rattle.sh_exec.specs.Groups.{behind_fork, released}
-use Rattle.sh_exec.specs.Reduction.{act_at, act_behind, act_place, at_root, expanded_by, reduce, shell_turn, drop_at, drop_first, dropped_run, rooted, turn_from}
-use Rattle.sh_exec_machine.specs.Waits.{wait_status}
+use Rattle.sh_exec_shell.specs.Forks.{background_input, begun_substitution, Turned, fork_failure, fork_turn, inherited, is_foreground, is_more, launch_by, list_by, list_turn, made_place, program_by, stage_by, stage_from, stage_input, stage_one, stage_place, stage_turn, substitute_turn, substitution_by, place_of_none, launched_by}
+use Rattle.sh_exec_turns.specs.Groups.{behind_fork, released}
+use Rattle.sh_exec_shell.specs.Reduction.{act_at, act_behind, act_place, at_root, expanded_by, reduce, shell_turn, drop_at, drop_first, dropped_run, rooted, turn_from}
 use Rattle.sh_files.specs.Nodes.{FileMap}
 use Rattle.sh_kernel.specs.State.{KernelState}
 use Rattle.sh_kernel_descriptors.specs.declared.descriptor.DescriptorRef.TheVariants.{Aside, Number}
@@ -98,14 +97,14 @@ use Rattle.sh_laws.proofs.BegunCommands.{and_or_stands, form_stands, list_stands
 use Rattle.sh_laws.proofs.BegunProcesses.{body_stands, stage_stands}
 use Rattle.sh_laws.proofs.CommandTurns.{ActiveHolds, CommandHolds, ExpandedHolds, MoveHolds, RoundHolds, TurnHolds, ahead_holds, assign_holds, case_holds, choose, give_holds, next_holds, not_done_holds, pattern_holds, redirects_hold, series_hold, words_hold, InputBegins, input_begins}
 use Rattle.sh_laws.proofs.SettledForms.{Holds, Settled, after_settled, at_action_settled, items_settled, outcome_holds, reported_holds, settled_holds, stands_holds, input_action_holds}
-use Rattle.sh_exec_requests.specs.Prompting.{behind_job, is_waiting, job_to_tell, prompt_by, prompt_of, prompt_turn, stays, with_job_told, input_action}
+use Rattle.sh_exec_signals.specs.Prompting.{behind_job, is_waiting, job_to_tell, prompt_by, prompt_of, prompt_turn, stays, with_job_told, input_action}
 use Rattle.sh_exec_actions.specs.Beginnings.{aliases_of, begun, not_begun}
 use Rattle.sh_aliases.specs.Aliases.{AliasTable}
-use Rattle.sh_exec.specs.Input.{behind_blank, ends_line, input_read, input_run, input_taken, input_turn}
+use Rattle.sh_exec_turns.specs.Input.{behind_blank, ends_line, input_read, input_run, input_taken, input_turn}
 use Rattle.sh_exec_command.specs.declared.found.InputFound.{InputFound}
 use Rattle.sh_exec_command.specs.declared.found.InputFound.TheVariants as input
-use Rattle.sh_exec.proofs.Frames.{whole}
-use Rattle.sh_exec_entering.specs.Stacks.{path_of, run_in, run_of}
+use Rattle.sh_exec_shell.proofs.Frames.{whole}
+use Rattle.sh_exec_forms.specs.Stacks.{path_of, run_in, run_of}
 use Rattle.sh_builtin_jobs.specs.Listing.{job_lines}
 use Rattle.sh_jobs.specs.declared.line.JobForm.TheVariants.{Short}
 

@@ -9,7 +9,7 @@ use Rattle.sh_exec.specs.declared.turn_action.TurnAction.{TurnAction}
 use Rattle.sh_exec_actions.specs.declared.action.Action.TheVariants.{Reading}
 use Rattle.sh_exec_actions.specs.declared.action.Active.{Active}
 use Rattle.sh_exec_actions.specs.declared.action.Active.TheVariants.{Acting, Calling, Evaluating, Next, Done, Leaving}
-use Rattle.sh_exec_entering.specs.Running.{active_of}
+use Rattle.sh_exec_forms.specs.Running.{active_of}
 use Rattle.sh_files.specs.Nodes.{FileMap, node_of_path}
 use Rattle.sh_files_image.specs.declared.node.Node.{Node}
 use Rattle.sh_files_image.specs.declared.node.Node.TheVariants.{Directory, File, Null, Terminal}

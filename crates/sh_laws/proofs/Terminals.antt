@@ -5,9 +5,9 @@ use Rattle.sh_builtin_shell.specs.declared.shell.Shell.{Shell}
 use Rattle.sh_exec_actions.specs.declared.action.Action.TheVariants.{WaitForJob}
 use Rattle.sh_exec_actions.specs.declared.action.Active.TheVariants.{Next}
 use Rattle.sh_builtin_outcome.specs.declared.rest.JobWait.{JobWait}
-use Rattle.sh_exec_requests.specs.JobWaits.{job_ended, job_wait_by, job_wait_turn}
-use Rattle.sh_exec_requests.specs.Placed.{at_place}
-use Rattle.sh_exec_requests.specs.Waiting.{controlled_by, terminal_back, wait_turn, waiting}
+use Rattle.sh_exec_waiting.specs.JobWaits.{job_ended, job_wait_by, job_wait_turn}
+use Rattle.sh_exec_signals.specs.Placed.{at_place}
+use Rattle.sh_exec_waiting.specs.Waiting.{controlled_by, terminal_back, wait_turn, waiting}
 use Rattle.sh_exec_machine.specs.Waits.{wait_status}
 use Rattle.sh_jobs.specs.States.{any_runs, last_ending, last_stop, state_at_rest, state_of}
 use Rattle.sh_jobs.specs.declared.state.Ending.{Ending}

@@ -21,11 +21,11 @@ use Rattle.sh_kernel_descriptors.specs.declared.fault.KernelFault.{KernelFault}
 use Rattle.sh_kernel.specs.Calls.{set_aside_call}
 use Rattle.sh_builtin_shell.specs.Shells.{own_group}
 use Rattle.sh_kernel.specs.Requests.{Request, Fork, Read, SetAction, SetAside, SetForeground, SetGroup, Write, after_request, after_requests}
-use Rattle.sh_kernel_signals.specs.declared.member.SignalAction.{SignalAction}
-use Rattle.sh_kernel_signals.specs.declared.member.SignalAction.TheVariants.{Ignored}
+use Rattle.sh_kernel_processes.specs.declared.member.SignalAction.{SignalAction}
+use Rattle.sh_kernel_processes.specs.declared.member.SignalAction.TheVariants.{Ignored}
 use Rattle.sh_signal.specs.declared.signal.Signal.{Signal}
 use Rattle.sh_signal.specs.declared.signal.Signal.TheVariants.{Interrupt, Quit}
-use Rattle.sh_exec.specs.Groups.{behind_fork_by, given_terminal, leader}
+use Rattle.sh_exec_turns.specs.Groups.{behind_fork_by, given_terminal, leader}
 use Rattle.sh_kernel.specs.State.{KernelState}
 use Rattle.sh_laws.specs.Requests.{IsFrom}
 

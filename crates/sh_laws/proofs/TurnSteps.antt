@@ -11,7 +11,7 @@ use Rattle.sh_builtin.specs.Running.{built_in, jobs_ran}
 use Rattle.sh_builtin_outcome.specs.declared.builtin.Builtin.{Builtin}
 use Rattle.sh_builtin_outcome.specs.declared.builtin.Builtin.TheVariants as builtin
 use Rattle.sh_builtin_shell.specs.declared.shell.Shell.{Shell}
-use Rattle.sh_exec_command.specs.Series.{rest_of_series}
+use Rattle.sh_exec_actions.specs.ForLoops.{rest_of_series}
 use Rattle.sh_exec_actions.specs.Statuses.{unexcused}
 use Rattle.sh_exec_actions.specs.declared.beginning.Beginning.{Beginning}
 use Rattle.sh_exec_actions.specs.declared.status.CommandStatus.{CommandStatus}
@@ -20,7 +20,7 @@ use Rattle.sh_exec_actions.specs.declared.action.Active.TheVariants.{Acting, Cal
 use Rattle.sh_exec_actions.specs.declared.action.Expanded.{Expanded}
 use Rattle.sh_exec_actions.specs.declared.action.Expanded.TheVariants as expanded
 use Rattle.sh_exec_actions.specs.declared.action.Finish.{Finish}
-use Rattle.sh_exec_actions.specs.Answers.{Pending}
+use Rattle.sh_expand.specs.Answers.{Pending}
 use Rattle.sh_exec_actions.specs.declared.action.Action.{Action}
 use Rattle.sh_exec_actions.specs.declared.action.Action.TheVariants.{Reading, Prompting, ReadInput, Expanding, ReadSubstitution, WaitSubstitution, Asking, WaitForJob, Redirecting, Forking, Starting, ForkStage, ForkList, AssignLoopVariable, Defining, Waiting, Writing, Trapping, Ending}
 use Rattle.sh_exec_actions.specs.declared.action.ExpandedCommand.{ExpandedCommand}
@@ -33,32 +33,33 @@ use Rattle.sh_exec_machine.specs.Transfers.{take_bytes, Giving, give_bytes}
 use Rattle.sh_exec_machine.specs.Waits.{wait_status}
 use Rattle.sh_exec_machine.specs.declared.transfer.ReadOutcome.{ReadOutcome}
 use Rattle.sh_exec_machine.specs.declared.transfer.ReadOutcome.TheVariants as taken
-use Rattle.sh_exec.specs.Acting.{collect_by, collect_end, collect_from, collect_turn, after_collection, end_turn, expand_turn, keeps, next, redirect_from, redirect_one, redirect_turn, trap_by, trap_turn, with_written, write_turn}
-use Rattle.sh_exec_requests.specs.Placed.{Placed, at_place}
-use Rattle.sh_exec_requests.specs.Signals.{after_sending, after_trap_in, after_trap_set, after_traps, after_traps_in, signal_action, after_drop, after_own_signals, after_release, after_releases, own_action, own_ignored, released_action}
-use Rattle.sh_exec.specs.Traps.{interrupted, interruption, shell_before, trap_before, drops_before}
+use Rattle.sh_exec_turns.specs.Acting.{collect_by, collect_end, collect_from, collect_turn, after_collection, end_turn, expand_turn, keeps, next, redirect_from, redirect_one, redirect_turn, trap_by, trap_turn, with_written, write_turn}
+use Rattle.sh_exec_signals.specs.Placed.{Placed, at_place}
+use Rattle.sh_exec_waiting.specs.Sending.{after_sending}
+use Rattle.sh_exec_signals.specs.Signals.{after_trap_in, after_trap_set, after_traps, after_traps_in, signal_action, after_drop, after_own_signals, after_release, after_releases, own_action, own_ignored, released_action}
+use Rattle.sh_exec_turns.specs.Traps.{interrupted, interruption, shell_before, trap_before, drops_before}
 use Rattle.sh_jobs.specs.declared.fault.JobFault.{JobFault}
-use Rattle.sh_kernel_signals.specs.Sets.{has}
-use Rattle.sh_kernel_signals.specs.declared.set.SignalSet.{SignalSet}
-use Rattle.sh_kernel_signals.specs.declared.target.SignalTarget.{SignalTarget}
+use Rattle.sh_kernel_processes.specs.Sets.{has}
+use Rattle.sh_kernel_processes.specs.declared.set.SignalSet.{SignalSet}
+use Rattle.sh_kernel_processes.specs.declared.target.SignalTarget.{SignalTarget}
 use Rattle.sh_signal.specs.Signals.{signals}
 use Rattle.sh_signal.specs.declared.signal.Signal.{Signal}
-use Rattle.sh_exec_requests.specs.Asking.{after_continuation, after_continue, after_first, ask_by, ask_turn, asked}
-use Rattle.sh_exec_requests.specs.ReadLimit.{most_read}
-use Rattle.sh_builtin.specs.Answer.{Answer}
+use Rattle.sh_exec_waiting.specs.Asking.{after_continuation, after_continue, after_first, ask_by, ask_turn, asked}
+use Rattle.sh_exec_signals.specs.ReadLimit.{most_read}
+use Rattle.sh_builtin_asking.specs.declared.answer.Answer.{Answer}
 use Rattle.sh_builtin_outcome.specs.declared.rest.BuiltinRest.{BuiltinRest}
 use Rattle.sh_builtin_outcome.specs.declared.rest.BuiltinRest.TheVariants.{Reads, Waits, Kills, Continues}
 use Rattle.sh_laws.proofs.Resuming.{resumed_same}
-use Rattle.sh_exec.specs.Forks.{Turned, background_input, begun_substitution, fork_turn, inherited, is_foreground, is_more, launch_by, list_by, list_turn, made_shell, program_by, stage_by, stage_from, stage_input, stage_one, stage_shell, stage_turn, substitute_turn, substitution_by}
-use Rattle.sh_exec.specs.Groups.{behind_fork, behind_fork_by, released}
-use Rattle.sh_exec_requests.specs.Reporting.{behind}
-use Rattle.sh_exec.specs.Builtins.{builtin_effect, builtin_machine, call, effect_at, machine_at, evaluation, performed}
-use Rattle.sh_exec.specs.Forms.{Acted, with_run, after, after_by, after_status, after_leave, loop_left, onward, condition_run, at_action, undone, dropped_in_text, goes_on_reading, input_left, place_left}
+use Rattle.sh_exec_shell.specs.Forks.{Turned, background_input, begun_substitution, fork_turn, inherited, is_foreground, is_more, launch_by, list_by, list_turn, made_shell, program_by, stage_by, stage_from, stage_input, stage_one, stage_shell, stage_turn, substitute_turn, substitution_by}
+use Rattle.sh_exec_turns.specs.Groups.{behind_fork, behind_fork_by, released}
+use Rattle.sh_exec_signals.specs.Reporting.{behind}
+use Rattle.sh_exec_settling.specs.Builtins.{builtin_effect, builtin_machine, call, effect_at, machine_at, evaluation, performed}
+use Rattle.sh_exec_settling.specs.Forms.{Acted, with_run, after, after_by, after_status, after_leave, loop_left, onward, condition_run, at_action, undone, dropped_in_text, goes_on_reading, input_left, place_left}
 use Rattle.sh_builtin_environment.specs.TrapMaps.{action_of}
 use Rattle.sh_signal.specs.declared.condition.Condition.TheVariants.{Caught, Exit}
-use Rattle.sh_exec_frames.specs.Frames.{has_loop, is_failure_ignored, last_for, levels_left}
-use Rattle.sh_exec.specs.Reduction.{act_at, act_behind, act_place, expanded_by, reduce, shell_turn, drop_at, drop_first, dropped_run, rooted}
-use Rattle.sh_exec_entering.specs.Running.{InterpreterState, Run, At, In, active_of}
+use Rattle.sh_exec_forms.specs.Frames.{has_loop, is_failure_ignored, last_for, levels_left}
+use Rattle.sh_exec_shell.specs.Reduction.{act_at, act_behind, act_place, expanded_by, reduce, shell_turn, drop_at, drop_first, dropped_run, rooted}
+use Rattle.sh_exec_forms.specs.Running.{InterpreterState, Run, At, In, active_of}
 use Rattle.sh_exec_actions.specs.declared.form.Form.{Form}
 use Rattle.sh_exec_actions.specs.declared.form.Form.TheVariants.{Text, Input, Commands, Joined, Negated, Restoring, If, Condition, Body, ForBody, Call, Evaluation, Trapped, Interruption, FailuresIgnored}
 use Rattle.sh_kernel_descriptors.specs.declared.descriptor.DescriptorRef.TheVariants.{Aside, Number}
@@ -83,19 +84,19 @@ use Rattle.sh_builtin_outcome.specs.declared.rest.Continuation.{Continuation}
 use Rattle.sh_builtin_outcome.specs.declared.rest.Continuation.TheVariants as continuation
 use Rattle.sh_builtin_jobs.specs.declared.continuing.ContinuedJob.{ContinuedJob}
 use Rattle.sh_builtin_outcome.specs.declared.rest.JobWait.{JobWait}
-use Rattle.sh_exec_requests.specs.JobWaits.{job_ended, job_wait_by, job_wait_turn}
-use Rattle.sh_kernel_signals.specs.declared.target.SignalTarget.TheVariants.{Group}
+use Rattle.sh_exec_waiting.specs.JobWaits.{job_ended, job_wait_by, job_wait_turn}
+use Rattle.sh_kernel_processes.specs.declared.target.SignalTarget.TheVariants.{Group}
 use Rattle.sh_signal.specs.declared.signal.Signal.TheVariants as signal
-use Rattle.sh_exec_requests.specs.Waiting.{controlled_by, terminal_back, wait_turn, wait_with}
+use Rattle.sh_exec_waiting.specs.Waiting.{controlled_by, terminal_back, wait_turn, wait_with}
 use Rattle.sh_jobs.specs.States.{state_of}
 use Rattle.sh_jobs.specs.declared.state.JobState.{JobState}
 use Rattle.sh_jobs.specs.declared.state.JobState.TheVariants.{Running, Suspended}
 use Rattle.sh_jobs.specs.declared.state.JobState.TheVariants as state
-use Rattle.sh_exec_requests.specs.Prompting.{behind_job, is_waiting, job_to_tell, prompt_by, prompt_of, prompt_turn, stays, with_job_told}
-use Rattle.sh_exec.specs.Input.{input_taken, input_turn}
+use Rattle.sh_exec_signals.specs.Prompting.{behind_job, is_waiting, job_to_tell, prompt_by, prompt_of, prompt_turn, stays, with_job_told}
+use Rattle.sh_exec_turns.specs.Input.{input_taken, input_turn}
 use Rattle.sh_jobs.specs.declared.line.JobForm.TheVariants.{Short}
-use Rattle.sh_exec_entering.specs.Stacks.{path_of, run_in, run_of}
-use Rattle.sh_kernel_signals.specs.declared.member.SignalAction.TheVariants as does
+use Rattle.sh_exec_forms.specs.Stacks.{path_of, run_in, run_of}
+use Rattle.sh_kernel_processes.specs.declared.member.SignalAction.TheVariants as does
 use Rattle.sh_laws.proofs.Dropping.{drop_directory}
 use Rattle.sh_laws.proofs.Releasing.{own_settings, released_is}
 
@@ -264,7 +265,7 @@ module _ (directory : List ℕ) (pid : ℕ) (P : KernelState → Type 0) (kept :
   place_left_keeps around s shell (Starting start) leave e p = (e, p)
   place_left_keeps around s shell (ForkStage stages) leave e p = (e, p)
   place_left_keeps around s shell (ForkList list) leave e p = (e, p)
-  place_left_keeps around s shell (AssignLoopVariable series) leave e p = (e, p)
+  place_left_keeps around s shell (AssignLoopVariable series) leave e p = loop_left_keeps (has_loop around) leave s shell (At (rest_of_series series (unexcused 0))) e p
   place_left_keeps around s shell (Defining definition) leave e p = (e, p)
   place_left_keeps around s shell (Waiting wait) leave e p = (e, p)
   place_left_keeps around s shell (Writing piece finish) leave e p = (e, p)

@@ -12,7 +12,7 @@ use Rattle.sh_kernel_descriptors.specs.declared.descriptor.Closing.TheVariants.{
 use Rattle.sh_kernel_descriptors.specs.declared.descriptor.Descriptor.{Descriptor}
 use Rattle.sh_kernel_descriptors.specs.declared.descriptor.DescriptorRef.TheVariants.{Number, Aside}
 use Rattle.sh_kernel_processes.specs.declared.process.Process.{Process}
-use Rattle.sh_kernel_signals.specs.Laws.{OnlyStatuses}
+use Rattle.sh_kernel_processes.specs.Laws.{OnlyStatuses}
 use Rattle.sh_kernel_machine.specs.Signals.{with_processes}
 use Rattle.sh_kernel.specs.State.{KernelState, starting}
 use Rattle.sh_kernel.specs.Reaching.{reaches}

@@ -3,7 +3,7 @@ use Rattle.std.specs.Prelude.{◌≡◌, ℕ, List, [], ◌∷◌, ◌++◌, Boo
 use Rattle.sh_exec.specs.Tasks.{pid_of}
 use Rattle.sh_exec.specs.declared.task.Task.{Task}
 use Rattle.sh_exec.specs.declared.task.Task.TheVariants.{Runs, Asks}
-use Rattle.sh_exec_entering.specs.Running.{InterpreterState}
+use Rattle.sh_exec_forms.specs.Running.{InterpreterState}
 use Rattle.sh_laws.specs.Forking.{UnmadeReachNothing}
 use Rattle.sh_laws.specs.Rooted.{OpensFrom}
 use Rattle.sh_kernel.specs.Laws.{ChangesOnlyReached, OnlyGrows, ReachesNoMore, opens, sends}

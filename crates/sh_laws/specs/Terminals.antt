@@ -5,9 +5,9 @@ use Rattle.sh_builtin_shell.specs.declared.shell.Shell.{Shell}
 use Rattle.sh_exec_actions.specs.declared.action.Action.TheVariants.{WaitForJob}
 use Rattle.sh_exec_actions.specs.declared.action.Active.TheVariants.{Next}
 use Rattle.sh_builtin_outcome.specs.declared.rest.JobWait.{JobWait}
-use Rattle.sh_exec_requests.specs.JobWaits.{job_wait_turn}
-use Rattle.sh_exec_requests.specs.Placed.{at_place}
-use Rattle.sh_exec_requests.specs.Waiting.{wait_turn, waiting}
+use Rattle.sh_exec_waiting.specs.JobWaits.{job_wait_turn}
+use Rattle.sh_exec_signals.specs.Placed.{at_place}
+use Rattle.sh_exec_waiting.specs.Waiting.{wait_turn, waiting}
 use Rattle.sh_jobs.specs.States.{any_runs}
 use Rattle.sh_kernel.specs.State.{KernelState}
 

@@ -1,8 +1,8 @@
 -- Two whole explorations find the same.
 use Rattle.std.proofs.Common.{◌≡◌, ℕ, inl, inr, true, false, map, List, [], ◌∷◌, refl, sym, ap, ◌∙◌, subst, arith}
 use Rattle.std.proofs.lemmas.List.{take_all}
-use Rattle.sh_schedules_outcomes.specs.Event.{Event}
-use Rattle.sh_schedules_outcomes.specs.Event.TheVariants.{Run, Next, Key}
+use Rattle.sh_exec.specs.declared.event.Event.{Event}
+use Rattle.sh_exec.specs.declared.event.Event.TheVariants.{Run, Next, Key}
 use Rattle.sh_schedules_outcomes.specs.Schedules.{AreTurns, Machine, end_of, preemptions}
 use Rattle.sh_schedules_outcomes.specs.Choices.{In, schedules}
 use Rattle.sh_schedules_outcomes.specs.Found.{AreFound, HaveNoneBefore, IsFound, IsNumber, Shows}

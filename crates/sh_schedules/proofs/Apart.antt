@@ -1,8 +1,8 @@
 -- No schedule is in the list of all schedules twice.
 use Rattle.std.proofs.Common.{◌≡◌, ℕ, zero, suc, ◌-◌, ◌<◌, inl, inr, Bool, true, false, nat_eq, Option, Some, None, List, [], ◌∷◌, ◌++◌, length, refl, sym, ◌∙◌, subst, arith, if◌then◌else◌}
 use Rattle.std.proofs.lemmas.Bool.{eqb-false}
-use Rattle.sh_schedules_outcomes.specs.Event.{Event}
-use Rattle.sh_schedules_outcomes.specs.Event.TheVariants.{Run}
+use Rattle.sh_exec.specs.declared.event.Event.{Event}
+use Rattle.sh_exec.specs.declared.event.Event.TheVariants.{Run}
 use Rattle.sh_schedules_outcomes.specs.Schedules.{Machine, cost, last_place}
 use Rattle.sh_schedules_outcomes.specs.Choices.{AreApart, In, begun, begun_by, choices, choices_by, of_choices, others_below, places_below, schedules}
 use Rattle.sh_schedules_outcomes.proofs.Orders.{begins, begun_with, below_only, in_either, others_only}

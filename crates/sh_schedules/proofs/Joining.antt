@@ -1,6 +1,6 @@
 -- What was found in two parts of the schedules, joined, is what is found in both.
 use Rattle.std.proofs.Common.{◌≡◌, ◌≢◌, ℕ, ◌+◌, ◌<◌, ◌^◌, ◌⊎◌, inl, inr, List, [], ◌∷◌, ◌++◌, length, refl, sym, ap, ◌∙◌, subst, arith, length-append}
-use Rattle.sh_schedules_outcomes.specs.Event.{Event}
+use Rattle.sh_exec.specs.declared.event.Event.{Event}
 use Rattle.sh_schedules_outcomes.specs.Schedules.{IsSchedule, Machine, end_of, preemptions}
 use Rattle.sh_schedules_outcomes.specs.Found.{AreDistinct, AreFound, AreShown, HaveNoneBefore, IsFound, IsNumber, IsPreferred, IsSum, IsTally, Joined, JoinedAll, Shows, counted}
 use Rattle.sh_schedules_outcomes.specs.declared.found.Found.{Found}

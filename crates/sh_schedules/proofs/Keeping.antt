@@ -1,8 +1,8 @@
 -- What shards kept, run again and joined, is what they found, joined.
 use Rattle.std.proofs.Common.{◌≡◌, ℕ, ◌+◌, ◌<◌, ◌≤◌, ◌^◌, List, [], ◌∷◌, ◌++◌, length, map, take, get_or, true, inl, inr, refl, sym, ap, ◌∙◌, subst, arith}
 use Rattle.std.proofs.lemmas.List.{map-append, take_more}
-use Rattle.sh_schedules_outcomes.specs.Event.{Event}
-use Rattle.sh_schedules_outcomes.specs.Event.TheVariants.{Run}
+use Rattle.sh_exec.specs.declared.event.Event.{Event}
+use Rattle.sh_exec.specs.declared.event.Event.TheVariants.{Run}
 use Rattle.sh_schedules_outcomes.specs.Schedules.{Machine, end_of, preemptions}
 use Rattle.sh_schedules_outcomes.specs.Choices.{In, schedules}
 use Rattle.sh_schedules_outcomes.specs.Found.{AreFound, IsFound, IsRetraced, Joined, JoinedAll, JoinedInTurn}

@@ -3,7 +3,7 @@ use Rattle.std.proofs.Common.{◌≡◌, ◌≢◌, ℕ, suc, ◌+◌, ◌%◌, 
 use Rattle.std.proofs.lemmas.Bool.{eqb-true}
 use Rattle.std.proofs.lemmas.List.{take_all}
 use Rattle.std.proofs.lemmas.Nat.{mod_below}
-use Rattle.sh_schedules_outcomes.specs.Event.{Event}
+use Rattle.sh_exec.specs.declared.event.Event.{Event}
 use Rattle.sh_schedules_outcomes.specs.Schedules.{Machine, end_of}
 use Rattle.sh_schedules_outcomes.specs.Choices.{AreApart, In, schedules}
 use Rattle.sh_schedules_outcomes.specs.Found.{AreFound, AreShown, HaveNoneBefore, IsNumber, IsTally, JoinedInTurn, Shows}

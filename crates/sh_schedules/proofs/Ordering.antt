@@ -4,8 +4,8 @@ use Rattle.std.proofs.lemmas.List.Sorted.{All-permutation, IsPermutation-sym}
 use Rattle.std.proofs.lemmas.Map.Keys.{IsDistinct-IsPermutation}
 use Rattle.std.specs.List.{All, AllByRecursion, IsDistinct}
 use Rattle.std.specs.List.Sorted.{IsPermutation, IsSortedBy, ties}
-use Rattle.sh_schedules_outcomes.specs.Event.{Event}
-use Rattle.sh_schedules_outcomes.specs.Event.TheVariants.{Run}
+use Rattle.sh_exec.specs.declared.event.Event.{Event}
+use Rattle.sh_exec.specs.declared.event.Event.TheVariants.{Run}
 use Rattle.sh_schedules_outcomes.specs.Schedules.{Machine, end_of}
 use Rattle.sh_schedules_outcomes.specs.Choices.{In, schedules}
 use Rattle.sh_schedules_outcomes.specs.Found.{AreDistinct, AreFound, IsFound, Shows, is_before}

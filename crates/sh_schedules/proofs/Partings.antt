@@ -1,8 +1,8 @@
 -- Where two schedules part, as far as they have turns in common.
 use Rattle.std.proofs.Common.{◌≡◌, ◌≢◌, ◌⊎◌, inl, inr, ℕ, zero, suc, ◌+◌, ◌-◌, ◌<◌, ◌≤◌, List, [], ◌∷◌, length, Bool, true, false, Option, Some, None, refl, sym, ap, ◌∙◌, subst, arith, if◌then◌else◌, slice_get}
-use Rattle.sh_schedules_outcomes.specs.Event.{Event}
-use Rattle.sh_schedules_outcomes.specs.Event.TheVariants.{Run, Next, Key}
-use Rattle.sh_schedules_outcomes.specs.State.{State}
+use Rattle.sh_exec.specs.declared.event.Event.{Event}
+use Rattle.sh_exec.specs.declared.event.Event.TheVariants.{Run, Next, Key}
+use Rattle.sh_exec.specs.State.{State}
 use Rattle.sh_schedules_outcomes.specs.World.{WorldKept, WorldStands}
 use Rattle.sh_schedules_outcomes.specs.Schedules.{AreTurns, IsTurn, Machine, end_of}
 use Rattle.sh_schedules.specs.Parting.{DoesPart, is_same_turn, mover, parting, parting_by}

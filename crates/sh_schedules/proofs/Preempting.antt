@@ -1,7 +1,7 @@
 -- There is at most one preemption in each turn.
 use Rattle.std.proofs.Common.{◌≤◌, ℕ, List, [], ◌∷◌, length, Bool, true, false, Option, Some, None, nat_eq, if◌then◌else◌, arith}
-use Rattle.sh_schedules_outcomes.specs.Event.{Event}
-use Rattle.sh_schedules_outcomes.specs.Event.TheVariants.{Run, Next, Key}
+use Rattle.sh_exec.specs.declared.event.Event.{Event}
+use Rattle.sh_exec.specs.declared.event.Event.TheVariants.{Run, Next, Key}
 use Rattle.sh_schedules_outcomes.specs.Schedules.{IsAnySchedule, IsSchedule, Machine, cost, cost_by, last_place, preemptions}
 
 one_at_most : (is_here : Bool) → (if is_here then 0 else 1) ≤ 1

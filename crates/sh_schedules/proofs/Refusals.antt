@@ -1,7 +1,7 @@
 -- Why nothing is explored.
 use Rattle.std.proofs.Common.{◌≡◌, List, ℕ, Err, Ok, Result, IfErr, IsErrAnd, subst, sym}
 use Rattle.sh_stock.specs.Asking.{Meaning}
-use Rattle.sh_schedules_outcomes.specs.Settings.{Settings}
+use Rattle.sh_exec.specs.declared.settings.Settings.{Settings}
 use Rattle.sh_schedules_outcomes.specs.Refusals.{IsRefusal}
 use Rattle.sh_schedules_outcomes.specs.declared.fault.ExploreFault.{ExploreFault}
 use Rattle.sh_schedules.specs.Trying.{IsUnexplored}

@@ -4,7 +4,7 @@ use Rattle.std.specs.List.{filter}
 use Rattle.std.proofs.lemmas.Bool.Decides.{nat_tests}
 use Rattle.std.proofs.Math.Seq.{take-length}
 use Rattle.std.proofs.lemmas.List.{take-append-drop, take-append-le}
-use Rattle.sh_schedules_outcomes.specs.State.{State}
+use Rattle.sh_exec.specs.State.{State}
 use Rattle.sh_schedules_outcomes.specs.World.{WorldKept, WorldStands}
 use Rattle.sh_schedules_outcomes.specs.Schedules.{Machine}
 use Rattle.sh_schedules.specs.Paths.{IsAdvance}

@@ -1,8 +1,8 @@
 -- The shell machine runs by events.
 use Rattle.std.proofs.Common.{◌≡◌, List, [], ◌∷◌, refl}
 use Rattle.sh_stock.specs.Asking.{Meaning}
-use Rattle.sh_schedules_outcomes.specs.Event.{Event}
-use Rattle.sh_schedules_outcomes.specs.State.{State, run, step}
+use Rattle.sh_exec.specs.declared.event.Event.{Event}
+use Rattle.sh_exec.specs.State.{State, run, step}
 use Rattle.sh_schedules_outcomes.specs.Schedules.{end_of}
 use Rattle.sh_schedules_outcomes.specs.Shell.{shell}
 

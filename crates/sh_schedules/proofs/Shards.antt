@@ -1,8 +1,8 @@
 -- Marks of events, and what of a list of schedules is meant.
 use Rattle.std.proofs.Common.{◌≡◌, ℕ, zero, suc, ◌-◌, ◌<◌, ◌≤◌, inl, inr, Bool, true, false, nat_eq, Option, List, [], ◌∷◌, ◌++◌, length, refl, sym, ap, ◌∙◌, subst, arith, if◌then◌else◌, length-append}
 use Rattle.std.proofs.lemmas.List.{length-map}
-use Rattle.sh_schedules_outcomes.specs.Event.{Event}
-use Rattle.sh_schedules_outcomes.specs.Event.TheVariants.{Run, Next, Key}
+use Rattle.sh_exec.specs.declared.event.Event.{Event}
+use Rattle.sh_exec.specs.declared.event.Event.TheVariants.{Run, Next, Key}
 use Rattle.sh_schedules_outcomes.specs.Schedules.{Machine, cost, end_of, last_place}
 use Rattle.sh_schedules_outcomes.specs.Choices.{In, begun, begun_by, choices, of_choices, schedules}
 use Rattle.sh_schedules.specs.Paths.{event_of, events_of, spare, through, to_try}

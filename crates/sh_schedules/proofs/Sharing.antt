@@ -2,7 +2,7 @@
 use Rattle.std.proofs.Common.{◌≡◌, ℕ, zero, suc, ◌+◌, ◌-◌, ◌%◌, ◌<◌, ◌≤◌, Bool, true, false, nat_eq, List, [], ◌∷◌, length, refl, sym, ap, ◌∙◌, arith, inl, inr}
 use Rattle.std.proofs.lemmas.Bool.{eqb-true, eqb-false}
 use Rattle.std.proofs.lemmas.Nat.{mod_below}
-use Rattle.sh_schedules_outcomes.specs.Event.{Event}
+use Rattle.sh_exec.specs.declared.event.Event.{Event}
 use Rattle.sh_schedules_outcomes.specs.Schedules.{IsSchedule, Machine}
 use Rattle.sh_schedules_outcomes.specs.Choices.{In, schedules}
 use Rattle.sh_schedules.specs.Shards.{first_mark, is_dealt, is_of_shard, marked, numbers_up_to, shard_at, shard_of, those, with_next}

@@ -1,7 +1,7 @@
 -- What is still to be tried, as turns are added, as a schedule ends, and as a turn gives way to another.
 use Rattle.std.proofs.Common.{◌≡◌, ℕ, zero, suc, ◌+◌, ◌-◌, ◌≤◌, ◌⊎◌, inl, inr, List, [], ◌∷◌, ◌++◌, length, refl, ap, ◌∙◌, arith}
-use Rattle.sh_schedules_outcomes.specs.Event.{Event}
-use Rattle.sh_schedules_outcomes.specs.Event.TheVariants.{Run}
+use Rattle.sh_exec.specs.declared.event.Event.{Event}
+use Rattle.sh_exec.specs.declared.event.Event.TheVariants.{Run}
 use Rattle.sh_schedules_outcomes.specs.Schedules.{Machine, cost, end_of, preemptions}
 use Rattle.sh_schedules_outcomes.specs.Choices.{begun, choices, of_choices, schedules}
 use Rattle.sh_schedules.specs.Paths.{HaveNoOther, behind, event_of, events_of, spare, through, to_try}

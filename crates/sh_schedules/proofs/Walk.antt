@@ -3,9 +3,9 @@ use Rattle.std.proofs.Common.{◌≡◌, ℕ, ◌+◌, ◌-◌, ◌<◌, ◌≤�
 use Rattle.std.proofs.Math.Seq.{take-append_seam}
 use Rattle.std.proofs.lemmas.List.{take_more}
 use Rattle.std.proofs.Math.Nat.{mod-one}
-use Rattle.sh_schedules_outcomes.specs.Event.{Event}
-use Rattle.sh_schedules_outcomes.specs.Event.TheVariants.{Run}
-use Rattle.sh_schedules_outcomes.specs.State.{State}
+use Rattle.sh_exec.specs.declared.event.Event.{Event}
+use Rattle.sh_exec.specs.declared.event.Event.TheVariants.{Run}
+use Rattle.sh_exec.specs.State.{State}
 use Rattle.sh_schedules_outcomes.specs.World.{WorldKept, WorldStands}
 use Rattle.sh_schedules_outcomes.specs.Schedules.{Machine, cost, cost_by, end_of, last_place, preemptions}
 use Rattle.sh_schedules_outcomes.specs.Choices.{In, choices, schedules}

@@ -1,6 +1,6 @@
 -- Worlds that are kept on the way of the schedule that is being tried.
 use Rattle.std.specs.Prelude.{ℕ, ◌≤◌, List, [], ◌∷◌, length, take}
-use Rattle.sh_schedules_outcomes.specs.State.{State}
+use Rattle.sh_exec.specs.State.{State}
 use Rattle.sh_schedules_outcomes.specs.Schedules.{Machine}
 use Rattle.sh_schedules.specs.Trying.{HasTaken}
 use Rattle.sh_schedules.specs.declared.path.Turn.{Turn}

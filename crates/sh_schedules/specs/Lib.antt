@@ -4,5 +4,5 @@ pub mod Shards
 pub mod Trying
 pub mod Checkpoints
 pub mod Merging
-pub use Rattle.sh_schedules_outcomes.specs.State
 pub use Rattle.sh_schedules_outcomes.specs.Shell
+pub use Rattle.sh_exec.specs.State

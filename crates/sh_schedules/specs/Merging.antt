@@ -1,6 +1,6 @@
 -- What shards kept of the outcomes that they found, put together.
 use Rattle.std.specs.Prelude.{◌≡◌, ℕ, List, [], ◌∷◌, map}
-use Rattle.sh_schedules_outcomes.specs.Event.TheVariants.{Run}
+use Rattle.sh_exec.specs.declared.event.Event.TheVariants.{Run}
 use Rattle.sh_schedules_outcomes.specs.Schedules.{Machine}
 use Rattle.sh_schedules_outcomes.specs.Found.{IsRetraced, Joined}
 use Rattle.sh_schedules_outcomes.specs.declared.found.Found.{Found}

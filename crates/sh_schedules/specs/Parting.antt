@@ -1,7 +1,7 @@
 -- Where two schedules part: the first turn that they give to different processes.
 use Rattle.std.specs.Prelude.{◌≡◌, ◌≢◌, ℕ, ◌+◌, List, [], ◌∷◌, Bool, true, false, Option, Some, None, if◌then◌else◌, nat_eq, slice_get}
-use Rattle.sh_schedules_outcomes.specs.Event.{Event}
-use Rattle.sh_schedules_outcomes.specs.Event.TheVariants.{Run, Next, Key}
+use Rattle.sh_exec.specs.declared.event.Event.{Event}
+use Rattle.sh_exec.specs.declared.event.Event.TheVariants.{Run, Next, Key}
 use Rattle.sh_schedules_outcomes.specs.Schedules.{IsSchedule, Machine}
 use Rattle.sh_schedules.specs.declared.parting.Parting.{Parting}
 

@@ -1,7 +1,7 @@
 -- The schedule that is being tried, with what is left to try in the place of each of its turns.
 use Rattle.std.specs.Prelude.{◌≡◌, ℕ, zero, suc, ◌-◌, List, [], ◌∷◌, ◌++◌, map, Bool, true, false}
-use Rattle.sh_schedules_outcomes.specs.Event.{Event}
-use Rattle.sh_schedules_outcomes.specs.Event.TheVariants.{Run}
+use Rattle.sh_exec.specs.declared.event.Event.{Event}
+use Rattle.sh_exec.specs.declared.event.Event.TheVariants.{Run}
 use Rattle.sh_schedules_outcomes.specs.Schedules.{Machine, cost}
 use Rattle.sh_schedules_outcomes.specs.Choices.{begun, begun_by, schedules}
 use Rattle.sh_schedules.specs.declared.path.Turn.{Turn}

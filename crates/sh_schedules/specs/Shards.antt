@@ -1,7 +1,7 @@
 -- The parts into which the schedules of a script are shared out, so that several runs try them: each schedule is in one of them.
 use Rattle.std.specs.Prelude.{ℕ, zero, suc, ◌+◌, ◌-◌, ◌*◌, ◌%◌, ◌≤◌, List, [], ◌∷◌, Bool, true, false, Option, Some, None, if◌then◌else◌, nat_eq}
-use Rattle.sh_schedules_outcomes.specs.Event.{Event}
-use Rattle.sh_schedules_outcomes.specs.Event.TheVariants.{Run, Next, Key}
+use Rattle.sh_exec.specs.declared.event.Event.{Event}
+use Rattle.sh_exec.specs.declared.event.Event.TheVariants.{Run, Next, Key}
 use Rattle.sh_schedules_outcomes.specs.Schedules.{Machine, last_place}
 use Rattle.sh_schedules_outcomes.specs.Choices.{AreApart, In, schedules}
 use Rattle.sh_schedules.specs.declared.shard.Mark.{Mark}

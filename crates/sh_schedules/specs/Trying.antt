@@ -3,9 +3,9 @@ use Rattle.std.specs.Prelude.{◌≡◌, ℕ, ◌-◌, ◌<◌, ◌≤◌, ◌^�
 use Rattle.sh_files.specs.Image.{read_image}
 use Rattle.sh_files.specs.Nodes.{FileMap}
 use Rattle.sh_stock.specs.Asking.{Meaning}
-use Rattle.sh_schedules_outcomes.specs.Event.{Event}
-use Rattle.sh_schedules_outcomes.specs.State.{State, start}
-use Rattle.sh_schedules_outcomes.specs.Settings.{Settings}
+use Rattle.sh_exec.specs.declared.event.Event.{Event}
+use Rattle.sh_exec.specs.State.{State, start}
+use Rattle.sh_exec.specs.declared.settings.Settings.{Settings}
 use Rattle.sh_schedules_outcomes.specs.World.{WorldKept, WorldStands}
 use Rattle.sh_schedules_outcomes.specs.Schedules.{IsSchedule, Machine, cost, end_of}
 use Rattle.sh_schedules_outcomes.specs.Choices.{choices, schedules}

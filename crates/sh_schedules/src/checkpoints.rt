@@ -1,6 +1,6 @@
 //! Worlds that are kept on the way of a schedule, so that the next one need not begin at the start.
 ghost use Rattle.std.specs.Prelude.{◌≡◌, ℕ, List, IfOk, IfSome, filter, length, nat_lt};
-ghost use Rattle.sh_schedules_outcomes.specs.State.{State};
+ghost use Rattle.sh_exec.specs.State.{State};
 ghost use Rattle.sh_schedules_outcomes.specs.World.{WorldStands};
 ghost use Rattle.sh_schedules_outcomes.specs.Shell.{shell};
 ghost use Rattle.sh_schedules.specs.Checkpoints.{AreCheckpoints, IsCheckpoint};

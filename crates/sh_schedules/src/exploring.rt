@@ -3,7 +3,7 @@ ghost use Rattle.std.specs.Prelude.{◌≡◌, ◌+◌, ◌<◌, ◌≤◌, ◌^
 ghost use Rattle.sh_files.specs.Image.{read_image};
 ghost use Rattle.sh_files.specs.Nodes.{FileMap};
 ghost use Rattle.sh_schedules_outcomes.specs.World.{WorldStands};
-ghost use Rattle.sh_schedules_outcomes.specs.State.{State, start};
+ghost use Rattle.sh_exec.specs.State.{State, start};
 ghost use Rattle.sh_schedules.specs.Paths.{events_of};
 ghost use Rattle.sh_schedules_outcomes.specs.Found.{Noted};
 ghost use Rattle.sh_schedules_outcomes.specs.Refusals.{IsRefusal};
@@ -18,9 +18,8 @@ use crate::shard::{Shard, is_of};
 use crate::turns::{go_to_end, take_rest};
 use sh_base::NoMemory;
 use sh_base::sequence::Sequence;
-use sh_schedules_outcomes::{
-    Event, ExploreFault, Found, Settings, World, begin, files_of, note, outcome_of,
-};
+use sh_exec::{Event, Settings};
+use sh_schedules_outcomes::{ExploreFault, Found, World, begin, files_of, note, outcome_of};
 use sh_stock::{CopyStock, Stock};
 use std::alloc::Global;
 

@@ -2,13 +2,14 @@
 ghost use Rattle.std.specs.Prelude.{◌≡◌, IfErr, OnOk, Ok};
 ghost use Rattle.sh_files.specs.Image.{read_image};
 ghost use Rattle.sh_files.specs.Nodes.{FileMap};
-ghost use Rattle.sh_schedules_outcomes.specs.State.{start};
+ghost use Rattle.sh_exec.specs.State.{start};
 ghost use Rattle.sh_schedules.specs.Merging.{AreJoined, IsJoined};
 ghost use Rattle.sh_schedules_outcomes.specs.Refusals.{IsRefusal};
 ghost use Rattle.sh_schedules_outcomes.specs.Shell.{outcome_of, shell};
 
 use crate::retracing::retrace;
-use sh_schedules_outcomes::{ExploreFault, Found, Settings, join};
+use sh_exec::Settings;
+use sh_schedules_outcomes::{ExploreFault, Found, join};
 use sh_stock::Stock;
 use std::alloc::Global;
 

@@ -1,7 +1,7 @@
 //! Laws of schedules.
 ghost use Rattle.std.specs.Prelude.{◌≡◌, ◌+◌, ◌<◌, ◌≤◌, ◌^◌, ℕ, List, [], ◌++◌, length, true, IsPermutation, IsSortedBy};
-ghost use Rattle.sh_schedules_outcomes.specs.State.{State, run};
-ghost use Rattle.sh_schedules_outcomes.specs.Event.{Event};
+ghost use Rattle.sh_exec.specs.State.{State, run};
+ghost use Rattle.sh_exec.specs.declared.event.Event.{Event};
 ghost use Rattle.sh_schedules_outcomes.specs.Schedules.{IsAnySchedule, IsSchedule, end_of};
 ghost use Rattle.sh_schedules_outcomes.specs.Choices.{AreApart, In, schedules};
 ghost use Rattle.sh_schedules_outcomes.specs.Found.{IsTally, JoinedAll, JoinedInTurn, Shows, is_before};

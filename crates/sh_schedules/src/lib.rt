@@ -22,7 +22,6 @@ pub use laws::{
 };
 pub use parting::{Parting, find_parting};
 pub use retracing::retrace;
-pub use sh_schedules_outcomes::{
-    Ending, Event, ExploreFault, Found, Outcome, Settings, TurnAction, Waiter, join, sort,
-};
+pub use sh_exec::{Event, Settings, TurnAction};
+pub use sh_schedules_outcomes::{Ending, ExploreFault, Found, Outcome, Waiter, join, sort};
 pub use shard::Shard;

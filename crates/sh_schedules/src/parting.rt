@@ -3,14 +3,15 @@ ghost use Rattle.std.specs.Prelude.{◌≡◌, ◌+◌, ◌<◌, ◌≤◌, ◌^
 ghost use Rattle.sh_files.specs.Image.{read_image};
 ghost use Rattle.sh_files.specs.Nodes.{FileMap};
 ghost use Rattle.sh_schedules_outcomes.specs.World.{WorldStands};
-ghost use Rattle.sh_schedules_outcomes.specs.State.{State, start};
+ghost use Rattle.sh_exec.specs.State.{State, start};
 ghost use Rattle.sh_schedules.specs.Parting.{is_same_turn, mover, parting, parting_by};
 ghost use Rattle.sh_schedules_outcomes.specs.Refusals.{IsRefusal};
 ghost use Rattle.sh_schedules_outcomes.specs.Shell.{shell};
 
 use crate::turns::{runnable, turn_of};
 use sh_base::NoMemory;
-use sh_schedules_outcomes::{Event, ExploreFault, Settings, World, begin};
+use sh_exec::{Event, Settings};
+use sh_schedules_outcomes::{ExploreFault, World, begin};
 use sh_stock::Stock;
 use std::alloc::Global;
 

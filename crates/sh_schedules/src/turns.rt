@@ -1,8 +1,8 @@
 //! The turns of a world by a schedule.
 ghost use Rattle.std.specs.Prelude.{◌≡◌, ◌+◌, ◌-◌, ◌<◌, ◌≤◌, ◌^◌, ℕ, IfOk, OnOk, IsTrue, length, take};
 ghost use Rattle.sh_schedules_outcomes.specs.World.{WorldStands};
-ghost use Rattle.sh_schedules_outcomes.specs.State.{State};
-ghost use Rattle.sh_schedules_outcomes.specs.Event.TheVariants.{Run};
+ghost use Rattle.sh_exec.specs.State.{State};
+ghost use Rattle.sh_exec.specs.declared.event.Event.TheVariants.{Run};
 ghost use Rattle.sh_schedules_outcomes.specs.Schedules.{cost_by, last_place, place_of};
 ghost use Rattle.sh_schedules_outcomes.specs.Choices.{choices_by};
 ghost use Rattle.sh_schedules.specs.Shards.{first_mark, is_first_by, next_mark};
@@ -15,7 +15,8 @@ use crate::path::{Turn, first_turn};
 use crate::shard::{Mark, Shard};
 use crate::{choices, shard};
 use sh_base::NoMemory;
-use sh_schedules_outcomes::{Event, World};
+use sh_exec::Event;
+use sh_schedules_outcomes::World;
 use sh_stock::{CopyStock, Stock};
 use std::alloc::Global;
 

@@ -4,7 +4,4 @@ pub mod Preference
 pub mod Found
 pub mod Refusals
 pub mod Shell
-pub use Rattle.sh_world.specs.Event
-pub use Rattle.sh_world.specs.Settings
-pub use Rattle.sh_world.specs.State
 pub use Rattle.sh_world.specs.World

@@ -6,7 +6,7 @@ ghost use Rattle.sh_files_image.specs.declared.image_fault.ImageFault.{ImageFaul
 ghost use Rattle.sh_schedules_outcomes.specs.declared.fault.ExploreFault.TheVariants as reason;
 
 use sh_base::NoMemory;
-use sh_files::{FaultKind, ImageFault};
+use sh_files_image::{FaultKind, ImageFault};
 use thiserror::Error;
 
 /// Why there is no exploration.

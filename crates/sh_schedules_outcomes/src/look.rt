@@ -8,7 +8,7 @@ ghost use Rattle.sh_schedules_outcomes.specs.Shell.{ending_by, outcome_of, statu
 use crate::outcome::{Ending, Outcome, Waiter};
 use sh_base::NoMemory;
 use sh_base::sequence::{Sequence, Text};
-use sh_kernel::{FIRST_PID, Status};
+use sh_kernel_processes::{FIRST_PID, Status};
 use sh_stock::Stock;
 use sh_world::{Task, World};
 use std::alloc::Global;

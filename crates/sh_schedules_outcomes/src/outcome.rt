@@ -2,7 +2,7 @@
 ghost use Rattle.std.specs.Prelude.{◌≡◌, ◌↔◌, IsTrue};
 
 use sh_base::sequence::{Sequence, Text};
-use sh_kernel::Status;
+use sh_kernel_processes::Status;
 use sh_world::TurnAction;
 
 /// How a run ends.

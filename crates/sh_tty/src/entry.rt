@@ -1,5 +1,5 @@
 //! Input that was handed over.
-ghost use Rattle.std.specs.Prelude.{◌≡◌, ◌≤◌, IfOk, MatchOption, drop, length, option_map, take};
+ghost use Rattle.std.specs.Prelude.{◌≡◌, ◌≤◌, IfOk, IfSome, MatchOption, drop, length, option_map, take};
 ghost use Rattle.sh_tty.specs.Keys.{read_of, entries_after_read};
 
 use std::alloc::{AllocError, Global};
@@ -95,6 +95,7 @@ pub(crate) fn copy_first(entries: &VecDeque<Entry>, buf: &mut [u8]) -> Option<us
     ensures count { option_map (λ n. take n buf.new) result
         ≡ read_of (length buf.old) entries.now.items }
     ensures rest { MatchOption result (buf.new ≡ buf.old) (λ n. drop n buf.new ≡ drop n buf.old) }
+    ensures within { IfSome result (λ n. n ≤ length buf.old) }
 {
     match entries.front()? {
         Entry::EndOfFile => Some(0),

@@ -1,6 +1,6 @@
 //! The terminal.
 ghost use Rattle.sh_base.specs.Memory.{no_memory};
-ghost use Rattle.std.specs.Prelude.{◌≡◌, ◌++◌, ◌∷◌, [], ℕ, List, Some, None, is_some, IfOk, OnOk, OnErr, IfErr, MatchResult, drop, length, take};
+ghost use Rattle.std.specs.Prelude.{◌≡◌, ◌≤◌, ◌++◌, ◌∷◌, [], ℕ, List, Some, None, is_some, IfOk, OnOk, OnErr, IfErr, MatchResult, drop, length, take};
 ghost use Rattle.sh_tty.specs.Happenings.{Happening, after_key, bytes_of};
 ghost use Rattle.sh_tty.specs.Keys.{echo, key_of, read_of, signal_of};
 ghost use Rattle.sh_tty.specs.Terminal.{Extends, StandsAt, kept_entries, kept_line};
@@ -266,6 +266,7 @@ impl Tty {
             (λ e. (e ≡ TtyFault.WouldWait) × (read_of (length buf.old) self.old.entries ≡ None)) }
         ensures rest { MatchResult result (λ n. drop n buf.new ≡ drop n buf.old) (λ e.
             buf.new ≡ buf.old) }
+        ensures within { IfOk result (λ n. n ≤ length buf.old) }
         ensures terminal { self.new.bytes ≡ self.old.bytes }
         ensures foreground { self.new.foreground ≡ self.old.foreground }
         ensures unchanged { OnErr result (self.new ≡ self.old) }

@@ -1,9 +1,9 @@
 pub mod World
 pub mod Watching
 pub mod Awake
-pub use Rattle.sh_exec.specs.State
-pub use Rattle.sh_exec.specs.Tasks
-pub use Rattle.sh_exec.specs.TurnActions
 pub use Rattle.sh_exec.specs.declared.event.Event
 pub use Rattle.sh_exec.specs.declared.settings.Settings
+pub use Rattle.sh_exec.specs.State
 pub use Rattle.sh_exec.specs.declared.task.Task
+pub use Rattle.sh_exec.specs.Tasks
+pub use Rattle.sh_exec.specs.TurnActions

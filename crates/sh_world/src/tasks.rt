@@ -11,7 +11,8 @@ ghost use Rattle.sh_exec.specs.Processes.{HaveTurned, living, pid_before, place_
 
 use sh_base::NoMemory;
 use sh_exec::Task;
-use sh_kernel::{Kernel, Status};
+use sh_kernel::Kernel;
+use sh_kernel_processes::Status;
 use sh_stock::Stock;
 use std::alloc::Global;
 

@@ -23,7 +23,8 @@ use sh_builtin_jobs::job_lines;
 use sh_exec::{Event, Settings, Task};
 use sh_files::Files;
 use sh_jobs::{JobForm, Jobs};
-use sh_kernel::{FIRST_PID, Kernel, Status};
+use sh_kernel::Kernel;
+use sh_kernel_processes::{FIRST_PID, Status};
 use sh_stock::Stock;
 use std::alloc::Global;
 use std::marker::Model;
@@ -357,17 +358,18 @@ impl<S: Stock> World<S> {
         }
     }
 
-    /// The lines of the first shell's jobs, as `jobs -l` writes them (XCU jobs), the least number first; `None` once memory was wanting. The only
-    /// error is want of memory.
-    pub fn job_lines(&self) -> Result<Option<Text>, NoMemory>
-        ensures view { (s : State S) → WorldStands self.now s → IfOk result (λ lines.
-            lines ≡ Some (job_lines_of s)) }
-        ensures spent { IsSpent self.now → IfOk result (λ lines. lines ≡ None) }
+    /// The lines of the first shell's jobs, as `jobs -l` writes them (XCU jobs), the least number first. The only error is want of memory, at
+    /// once where memory was wanting before.
+    pub fn job_lines(&self) -> Result<Text, NoMemory>
+        ensures view { (s : State S) → WorldStands self.now s → IfOk result (λ lines. lines ≡ job_lines_of s) }
+        ensures spent { IsSpent self.now → IsErr result }
     {
-        match self.jobs() {
-            Some(jobs) => Ok(Some(lines_now(self.alloc, &self.kernel, jobs)?)),
-            None => Ok(None),
+        if let Some(lack) = self.lack {
+            return Err(lack);
         }
+        let first = task_among(self.tasks.as_slice(), FIRST_PID);
+        let lines = lines_now(self.alloc, &self.kernel, jobs_in(first, &self.no_jobs))?;
+        Ok(lines)
     }
 
     /// Whether a process runs, is stopped or has ended: `Some` for every process that ever was; `None` once

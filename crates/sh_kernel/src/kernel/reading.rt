@@ -1,11 +1,11 @@
 //! Reads of the terminal.
 ghost use Rattle.sh_base.specs.Memory.{no_memory};
-ghost use Rattle.std.specs.Prelude.{◌≡◌, ◌≢◌, ◌&&◌, ℕ, IfErr, length, not};
+ghost use Rattle.std.specs.Prelude.{◌≡◌, ◌≢◌, ◌≤◌, ◌&&◌, ℕ, IfErr, IfOk, IsErr, length, not};
 
 use super::Kernel;
 use crate::access::{Access, access_of};
 use sh_kernel_descriptors::KernelFault;
-use sh_kernel_signals::SignalTarget;
+use sh_kernel_processes::SignalTarget;
 use sh_signal::Signal;
 use sh_tty::TtyFault;
 
@@ -31,6 +31,7 @@ impl Kernel {
 
     /// Sends SIGTTIN to a background group, one of whose processes reads from the terminal.
     fn raise_input(&mut self, group: u32) -> Result<usize, KernelFault>
+        ensures refused { IsErr result }
         ensures state { (s : KernelState) → StandsAt self.old s
             → GivesOrLacks result self.new s (background_read s group) }
         ensures terminal { self.new.terminal ≡ self.old.terminal }
@@ -48,6 +49,7 @@ impl Kernel {
         ensures memory { IfErr result (λ fault. fault ≢ KernelFault.NoMemory no_memory) }
         ensures state { (s : KernelState) → StandsAt self.old s
             → GivesReadOrLacks result buf.old buf.new self.new s (read_by s (length buf.old) Access.Granted) }
+        ensures within { IfOk result (λ n. n ≤ length buf.old) }
         ensures terminal { self.new.terminal.bytes ≡ self.old.terminal.bytes }
         ensures watch { self.new.watch ≡ self.old.watch }
     {
@@ -65,6 +67,7 @@ impl Kernel {
             → GivesReadOrLacks result buf.old buf.new self.new s (read_by s (length buf.old) (access s pid)) }
         ensures room { (s : KernelState) → StandsAt self.old s
             → LacksWhereRaised result (is_raising (access s pid)) }
+        ensures within { IfOk result (λ n. n ≤ length buf.old) }
         ensures terminal { self.new.terminal.bytes ≡ self.old.terminal.bytes }
         ensures watch { self.new.watch ≡ self.old.watch }
     {

@@ -10,7 +10,7 @@ use super::Kernel;
 use crate::changes::{NumberedStatus, statuses_of};
 use sh_base::NoMemory;
 use sh_kernel_descriptors::KernelFault;
-use sh_kernel_signals::{
+use sh_kernel_processes::{
     Member, SignalAction, SignalTarget, is_any_reached, member_at, set_action, set_group,
     take_signal,
 };
@@ -36,11 +36,11 @@ fn type_key(terminal: &mut Tty, byte: u8) -> Result<Option<Signal>, NoMemory>
 
 impl Kernel {
     ghost use Rattle.sh_kernel_descriptors.specs.Outcomes.{LacksWhereGiven};
-    ghost use Rattle.sh_kernel_signals.specs.Changes.{next_pending};
-    ghost use Rattle.sh_kernel_signals.specs.Groups as groups;
-    ghost use Rattle.sh_kernel_signals.specs.Sending.{reaches};
+    ghost use Rattle.sh_kernel_processes.specs.Changes.{next_pending};
+    ghost use Rattle.sh_kernel_processes.specs.Groups as groups;
+    ghost use Rattle.sh_kernel_processes.specs.Sending.{reaches};
     ghost use Rattle.std.specs.List.{list_any};
-    ghost use Rattle.sh_kernel_signals.specs.Sending as sending;
+    ghost use Rattle.sh_kernel_processes.specs.Sending as sending;
     ghost use Rattle.sh_kernel.specs.Changes.{numbered_status};
     ghost use Rattle.sh_kernel.specs.Calls.{after_key, after_raising, after_set_action, after_set_foreground, after_set_group, after_take_signal, broken_pipe, kill_call};
     ghost use Rattle.sh_kernel.specs.Outcomes.{GivesOrLacks};

@@ -5,8 +5,9 @@ use super::Machine;
 use crate::tables::fork_in;
 use sh_base::NoMemory;
 use sh_kernel_descriptors::Closing;
-use sh_kernel_processes::{FIRST_PID, has_ended, lives};
-use sh_kernel_signals::{Member, SignalTarget, end, groups_at_risk, pids_of, send_prepared};
+use sh_kernel_processes::{
+    FIRST_PID, Member, SignalTarget, end, groups_at_risk, has_ended, lives, pids_of, send_prepared,
+};
 use sh_signal::Signal;
 use std::alloc::AllocError;
 
@@ -14,8 +15,8 @@ impl Machine {
     ghost use Rattle.sh_kernel_descriptors.specs.Machine.{MachineState, after_close, after_fork};
     ghost use Rattle.sh_kernel_processes.specs.Processes as processes;
     ghost use Rattle.sh_kernel_descriptors.specs.declared.descriptor.Closing.TheVariants.{Asides};
-    ghost use Rattle.sh_kernel_signals.specs.Sending.{after_end, after_send};
-    ghost use Rattle.sh_kernel_signals.specs.Sending as sending;
+    ghost use Rattle.sh_kernel_processes.specs.Sending.{after_end, after_send};
+    ghost use Rattle.sh_kernel_processes.specs.Sending as sending;
     ghost use Rattle.sh_kernel_machine.specs.Machine.{StandsAt};
     ghost use Rattle.sh_kernel_machine.specs.Signals.{after_ending, after_endings, with_processes};
 

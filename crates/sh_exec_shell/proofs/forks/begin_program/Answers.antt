@@ -3,8 +3,8 @@ use Rattle.sh_builtin_shell.specs.Shells.{forked_shell}
 use Rattle.sh_builtin_shell.specs.declared.shell.Shell.{Shell}
 use Rattle.sh_exec_actions.specs.Preparing.{ahead}
 use Rattle.sh_exec_actions.specs.declared.action.ExpandedCommand.{ExpandedCommand}
-use Rattle.sh_exec_turns.specs.Moves.{move_run}
-use Rattle.sh_exec_turns.specs.Running.{InterpreterState}
+use Rattle.sh_exec_forms.specs.Moves.{move_run}
+use Rattle.sh_exec_forms.specs.Running.{InterpreterState}
 use Rattle.sh_exec_shell.specs.Forks.{in_process}
 use Rattle.sh_exec_shell.proofs.forks.begin_program.Goals as goal
 

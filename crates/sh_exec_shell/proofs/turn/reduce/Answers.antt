@@ -1,4 +1,4 @@
-use Rattle.sh_exec_turns.specs.Stacks.{run_of}
+use Rattle.sh_exec_forms.specs.Stacks.{run_of}
 use Rattle.sh_exec_shell.proofs.Frames.{turned}
 use Rattle.sh_exec_shell.proofs.turn.reduce.Goals as goal
 

@@ -1,5 +1,5 @@
 use Rattle.sh_kernel.specs.Calls.{after_set_action}
-use Rattle.sh_kernel_signals.specs.declared.member.SignalAction.TheVariants.{Ignored}
+use Rattle.sh_kernel_processes.specs.declared.member.SignalAction.TheVariants.{Ignored}
 use Rattle.sh_signal.specs.declared.signal.Signal.TheVariants.{Interrupt}
 use Rattle.sh_exec_turns.proofs.groups.ignore_keys.Goals as goal
 

@@ -1,6 +1,6 @@
 use Rattle.std.proofs.Common.{ap, refl, subst, ◌∙◌}
 use Rattle.sh_exec_forms.specs.Running.{At}
-use Rattle.sh_exec_forms.specs.Writing.{written_by}
+use Rattle.sh_exec_waiting.specs.Writing.{written_by}
 use Rattle.sh_exec_machine.specs.Transfers.{HasGiven, give_bytes}
 use Rattle.sh_exec_turns.specs.Acting.{write_turn}
 use Rattle.sh_exec_turns.proofs.output.write_turn.Goals as goal

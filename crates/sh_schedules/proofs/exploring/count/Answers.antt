@@ -1,5 +1,5 @@
 use Rattle.std.proofs.Common.{List, OnOk, subst}
-use Rattle.sh_schedules_outcomes.specs.Event.{Event}
+use Rattle.sh_exec.specs.declared.event.Event.{Event}
 use Rattle.sh_schedules_outcomes.specs.Found.{Noted}
 use Rattle.sh_schedules.specs.Paths.{events_of}
 use Rattle.sh_schedules_outcomes.specs.declared.outcome.Outcome.{Outcome}

@@ -1,4 +1,4 @@
-use Rattle.sh_schedules_outcomes.specs.State.{start}
+use Rattle.sh_exec.specs.State.{start}
 use Rattle.sh_schedules_outcomes.specs.Shell.{outcome_of, shell}
 use Rattle.sh_schedules.proofs.Walk.{whole}
 use Rattle.sh_schedules.proofs.exploring.explore.Goals as goal

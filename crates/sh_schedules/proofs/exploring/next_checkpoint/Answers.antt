@@ -1,4 +1,4 @@
-use Rattle.sh_schedules_outcomes.specs.State.{start}
+use Rattle.sh_exec.specs.State.{start}
 use Rattle.sh_schedules.proofs.exploring.next_checkpoint.Goals as goal
 
 -- none is kept

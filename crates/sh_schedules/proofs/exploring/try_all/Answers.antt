@@ -1,6 +1,6 @@
 use Rattle.std.proofs.Common.{◌≡◌, ℕ, List, [], length, nat_lt, sym, subst, arith}
 use Rattle.std.specs.List.{filter}
-use Rattle.sh_schedules_outcomes.specs.State.{start}
+use Rattle.sh_exec.specs.State.{start}
 use Rattle.sh_schedules_outcomes.specs.Shell.{outcome_of, shell}
 use Rattle.sh_schedules.specs.Paths.{IsAdvance}
 use Rattle.sh_schedules.specs.Checkpoints.{AreCheckpoints}

@@ -1,5 +1,5 @@
 use Rattle.std.proofs.Common.{List, sym, subst}
-use Rattle.sh_schedules_outcomes.specs.State.{start}
+use Rattle.sh_exec.specs.State.{start}
 use Rattle.sh_schedules_outcomes.specs.Shell.{shell}
 use Rattle.sh_schedules.specs.Checkpoints.{AreCheckpoints}
 use Rattle.sh_schedules.specs.declared.checkpoints.Checkpoint.{Checkpoint}

@@ -1,5 +1,5 @@
 use Rattle.std.proofs.Common.{◌≤◌, List, length, subst, take_all, arith}
-use Rattle.sh_schedules_outcomes.specs.State.{start}
+use Rattle.sh_exec.specs.State.{start}
 use Rattle.sh_schedules.specs.Merging.{AreJoined}
 use Rattle.sh_schedules_outcomes.specs.Shell.{outcome_of, shell}
 use Rattle.sh_schedules.specs.declared.kept.Kept.{Kept}

@@ -1,6 +1,6 @@
 use Rattle.std.proofs.Common.{ℕ, List, map, subst}
-use Rattle.sh_schedules_outcomes.specs.Event.TheVariants.{Run}
-use Rattle.sh_schedules_outcomes.specs.State.{start}
+use Rattle.sh_exec.specs.declared.event.Event.TheVariants.{Run}
+use Rattle.sh_exec.specs.State.{start}
 use Rattle.sh_schedules_outcomes.specs.Found.{IsRetraced}
 use Rattle.sh_schedules_outcomes.specs.Shell.{outcome_of, shell}
 use Rattle.sh_schedules.proofs.kept.join_one.Goals as goal

@@ -1,5 +1,5 @@
 use Rattle.std.proofs.Common.{◌≡◌, ◌+◌, length}
-use Rattle.sh_schedules_outcomes.specs.State.{State}
+use Rattle.sh_exec.specs.State.{State}
 use Rattle.sh_schedules_outcomes.specs.World.{WorldStands}
 use Rattle.sh_schedules_outcomes.specs.Shell.{shell}
 use Rattle.sh_schedules.proofs.Partings.{StandsHere}

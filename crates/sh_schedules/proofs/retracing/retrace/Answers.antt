@@ -1,5 +1,5 @@
 use Rattle.std.proofs.Common.{ap, subst, ◌∙◌}
-use Rattle.sh_schedules_outcomes.specs.State.{start}
+use Rattle.sh_exec.specs.State.{start}
 use Rattle.sh_schedules_outcomes.specs.Found.{IsRetraced}
 use Rattle.sh_schedules.specs.Paths.{events_of}
 use Rattle.sh_schedules_outcomes.specs.Shell.{outcome_of, shell}

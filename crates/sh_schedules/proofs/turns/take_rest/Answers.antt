@@ -1,5 +1,5 @@
 use Rattle.std.proofs.Common.{◌≤◌, List, length, take, sym, subst, take_all, arith}
-use Rattle.sh_schedules_outcomes.specs.Event.TheVariants.{Run}
+use Rattle.sh_exec.specs.declared.event.Event.TheVariants.{Run}
 use Rattle.sh_schedules_outcomes.specs.World.{WorldStands}
 use Rattle.sh_schedules.specs.Paths.{events_of}
 use Rattle.sh_schedules_outcomes.specs.Schedules.{end_of}

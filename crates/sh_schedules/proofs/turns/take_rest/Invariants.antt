@@ -1,5 +1,5 @@
 use Rattle.std.proofs.Common.{ℕ, ◌≤◌, length, take}
-use Rattle.sh_schedules_outcomes.specs.State.{State}
+use Rattle.sh_exec.specs.State.{State}
 use Rattle.sh_schedules_outcomes.specs.Shell.{shell}
 use Rattle.sh_schedules.specs.Trying.{HasTaken}
 use Rattle.sh_schedules.proofs.turns.take_rest.Given as goal

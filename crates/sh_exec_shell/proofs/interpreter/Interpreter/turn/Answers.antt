@@ -1,5 +1,5 @@
 use Rattle.std.proofs.Common.{ap, subst, sym, ◌∙◌}
-use Rattle.sh_exec_turns.specs.Stacks.{run_of}
+use Rattle.sh_exec_forms.specs.Stacks.{run_of}
 use Rattle.sh_exec_shell.specs.Forks.{IsTurned}
 use Rattle.sh_exec_shell.specs.Reduction.{shell_turn}
 use Rattle.sh_exec_shell.proofs.Frames.{shell_turned}

@@ -1,5 +1,5 @@
 use Rattle.std.proofs.Common.{sym, subst, ap, ◌∙◌}
-use Rattle.sh_kernel_signals.specs.Sending.{after_send, pids_of}
+use Rattle.sh_kernel_processes.specs.Sending.{after_send, pids_of}
 use Rattle.sh_kernel.specs.State.{KernelKept, StandsAt}
 use Rattle.sh_kernel.specs.contracts.kernel.Kernel.{the_view}
 use Rattle.sh_kernel.proofs.Standing.{of_all, stands_after}

@@ -1,6 +1,6 @@
 use Rattle.std.proofs.Common.{List, filter, sym, subst}
-use Rattle.sh_kernel_signals.specs.Sending.{after_end, pids_of}
-use Rattle.sh_kernel_signals.specs.declared.member.Member.{Member}
+use Rattle.sh_kernel_processes.specs.Sending.{after_end, pids_of}
+use Rattle.sh_kernel_processes.specs.declared.member.Member.{Member}
 use Rattle.sh_kernel.specs.Changes.{is_stopped_at}
 use Rattle.sh_kernel.specs.State.{KernelKept, StandsAt}
 use Rattle.sh_kernel.specs.contracts.kernel.Kernel.{the_view}

@@ -1,6 +1,0 @@
-use Rattle.std.proofs.Common.{◌∙◌}
-use Rattle.sh_exec_command.proofs.Restoring.{goes_on}
-use Rattle.sh_exec_command.proofs.undo.restore_variables.Goals as goal
-
-pub saved-preserved : goal.saved-preserved
-saved-preserved c = goes_on c.saved.saved c.pop.new.self c.in-Some.one c.saved.vars _ c.in-Some.ensures.items c.in_ok-restore.ensures ∙ c.saved.invariant

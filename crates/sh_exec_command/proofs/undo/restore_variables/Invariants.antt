@@ -1,9 +1,0 @@
-use Rattle.std.proofs.Common.{◌≡◌, length}
-use Rattle.sh_exec_command.specs.Undoing.{all_restored}
-use Rattle.sh_exec_command.proofs.undo.restore_variables.Given as goal
-
-abbrev pub invariant-saved : goal.invariant-saved
-invariant-saved l = all_restored l.saved l.vars ≡ all_restored l.initial.saved l.initial.vars
-
-abbrev pub decreases-saved : goal.decreases-saved
-decreases-saved l = length l.saved

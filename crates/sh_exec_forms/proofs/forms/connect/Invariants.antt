@@ -1,9 +1,0 @@
-use Rattle.std.proofs.Common.{◌≡◌, length}
-use Rattle.sh_exec_forms.specs.Forms.{connected_run}
-use Rattle.sh_exec_forms.proofs.forms.connect.Given as goal
-
-abbrev pub invariant-others : goal.invariant-others
-invariant-others l = (connected_run l.others l.ended ≡ connected_run l.initial.others l.ended) × (l.frames ≡ l.initial.frames)
-
-abbrev pub decreases-others : goal.decreases-others
-decreases-others l = length l.others

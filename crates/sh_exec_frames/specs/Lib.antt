@@ -1,4 +1,0 @@
-pub mod Codes
-pub mod Frames
-pub mod JobTexts
-pub mod Kinds

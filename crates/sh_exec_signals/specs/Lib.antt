@@ -1,0 +1,5 @@
+pub mod Placed
+pub mod Prompting
+pub mod ReadLimit
+pub mod Reporting
+pub mod Signals

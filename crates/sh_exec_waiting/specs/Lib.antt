@@ -1,0 +1,5 @@
+pub mod Asking
+pub mod JobWaits
+pub mod Sending
+pub mod Waiting
+pub mod Writing

@@ -1,9 +1,0 @@
-pub mod Steps
-pub mod Keeping
-pub mod Crossing
-pub mod Leading
-pub mod Reading
-pub mod Writing
-pub mod Commuting
-pub mod Waiting
-pub mod Elsewhere

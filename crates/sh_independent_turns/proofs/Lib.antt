@@ -1,4 +1,0 @@
-pub mod Asked
-pub mod Replacing
-pub mod Meeting
-pub mod Elsewhere

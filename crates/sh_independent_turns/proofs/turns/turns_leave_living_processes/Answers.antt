@@ -1,5 +1,0 @@
-use Rattle.sh_independent_turns.proofs.Meeting.{all_live_after}
-use Rattle.sh_independent_turns.proofs.turns.turns_leave_living_processes.Goals as goal
-
-pub returns : goal.returns
-returns g c = all_live_after _

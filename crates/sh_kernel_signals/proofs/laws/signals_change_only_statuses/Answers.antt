@@ -1,5 +1,0 @@
-use Rattle.sh_kernel_signals.proofs.Statuses.{ends_change, signals_change}
-use Rattle.sh_kernel_signals.proofs.laws.signals_change_only_statuses.Goals as goal
-
-pub returns : goal.returns
-returns c = record { send = signals_change; end = ends_change }

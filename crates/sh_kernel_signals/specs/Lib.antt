@@ -1,6 +1,0 @@
-pub mod Changes
-pub mod Delivery
-pub mod Groups
-pub mod Laws
-pub mod Sending
-pub mod Sets

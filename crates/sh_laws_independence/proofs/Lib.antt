@@ -1,0 +1,13 @@
+pub mod Asked
+pub mod Commuting
+pub mod Crossing
+pub mod Elsewhere
+pub mod Keeping
+pub mod Leading
+pub mod Meeting
+pub mod Reading
+pub mod Replacing
+pub mod Steps
+pub mod TurnsElsewhere
+pub mod Waiting
+pub mod Writing

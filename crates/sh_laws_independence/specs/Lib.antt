@@ -1,0 +1,3 @@
+pub mod Independence
+pub mod IndependentTurns
+pub mod Parts

@@ -1,3 +1,0 @@
-pub mod Beside
-pub mod Leaving
-pub mod Files

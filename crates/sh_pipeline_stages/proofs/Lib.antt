@@ -1,9 +1,0 @@
-pub mod Changes
-pub mod Links
-pub mod Standing
-pub mod Acting
-pub mod Here
-pub mod Turning
-pub mod Beside
-pub mod Ending
-pub mod Laws

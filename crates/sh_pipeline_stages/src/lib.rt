@@ -1,4 +1,0 @@
-//! Laws of pipelines as processes.
-#![tactic(auto)]
-
-pub mod pipelines;

@@ -1,4 +1,0 @@
-pub mod Feeding
-pub mod Keeping
-pub mod Output
-pub mod Laws

@@ -1,9 +1,0 @@
-use Rattle.std.proofs.Common.{◌≡◌, ◌++◌, length}
-use Rattle.sh_process_rows.specs.Twice.{twice}
-use Rattle.sh_process_rows.proofs.twice.twice.Given as goal
-
-abbrev pub invariant-bytes : goal.invariant-bytes
-invariant-bytes l = l.doubled.items ++ twice l.rest ≡ twice l.bytes
-
-abbrev pub decreases-bytes : goal.decreases-bytes
-decreases-bytes l = length l.rest
