@@ -1,9 +1,9 @@
 #!/usr/bin/env python3
-"""Writes rows for sh_script_rows: scripts made at random, with what five real shells agree that they come to.
+"""Writes rows for run_script_rows.py: scripts made at random, with what five real shells agree that they come to.
 
 usage: agreed_rows.py [COUNT [SEED [KIND ..]]]
 
-Writes crates/sh_script_rows/data/agreed.image and crates/sh_script_rows/data/agreed: COUNT rows of each kind of
+Writes crates/psh/rows-scripts/agreed.image and crates/psh/rows-scripts/agreed: COUNT rows of each kind of
 compare_shells.py, without operands. Where kinds are named, the rows of these are written, and those of others stay as they
 are. Left out are scripts with a diagnostic, since its text differs, and those on which dash, bash, yash, mksh and busybox
 don't agree in output and status. What real shells tell of a process that a signal ended is no diagnostic: in `signals` it
@@ -18,7 +18,7 @@ import tempfile
 
 import compare_shells
 
-FOLDER = f"{compare_shells.TOP}/crates/sh_script_rows/data"
+FOLDER = f"{compare_shells.TOP}/crates/psh/rows-scripts"
 HEAD = """# Scripts made at random (scripts/agreed_rows.py), and what dash, bash, yash, mksh and busybox agree that they come to, on the
 # files of agreed.image. Each comes to it in six orders of turns: `comes STATUS TERMINAL SCRIPT`, with tabs between the fields, and
 # \\n, \\t and \\\\ in them for a newline, a tab and a backslash."""

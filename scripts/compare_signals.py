@@ -1,5 +1,5 @@
 #!/usr/bin/env python3
-"""Sends signals at random to processes of this machine, and compares how they stand with what sh_kernel_signals says.
+"""Sends signals at random to processes of this machine, and compares how they stand with what sh_kernel_processes says.
 
 usage: compare_signals.py [COUNT [SEED]]
 
@@ -28,7 +28,7 @@ PROGRAM = r"""
 #![tactic(auto)]
 
 use sh_kernel_processes::{ProcessList, Status};
-use sh_kernel_signals::{
+use sh_kernel_processes::{
     Member, SignalAction, SignalSet, SignalTarget, add_fork, end, send, set_action, set_group,
     start_program,
 };

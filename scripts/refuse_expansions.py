@@ -4,10 +4,10 @@
 In the built program: scripts on the image of the stock programs. A run that a refusal changes must end with 3, the line
 `psh: out of memory` on standard error and, as output, the terminal's bytes after some of the events.
 
-In sh_value_rows, which judges the rows of its file `expansions`. A run that a refusal changes must end with 1, one row coming to
+In test_calls, which judges the rows of its file `expansions`. A run that a refusal changes must end with 1, one row coming to
 `refused`, where a call was refused, or with 3 and a line on standard error where memory was wanting beside the calls; any other is bad.
 
-Needs a C compiler. Build first: ./build, and rt run in crates/sh_value_rows. The words `program` and `expand` choose one of the
+Needs a C compiler. Build first: ./build, and rt run in crates/test_calls. The words `program` and `expand` choose one of the
 two.
 """
 import os
@@ -128,15 +128,15 @@ def refuse_in_program(folder, shim):
 
 
 def refuse_in_rows(shim):
-    crate = os.path.join(TOP, "crates", "sh_value_rows")
-    words, data = [os.path.join(crate, "out", "sh_value_rows"), "expansions"], os.path.join(crate, "data")
+    crate = os.path.join(TOP, "crates", "test_calls")
+    words, data = [os.path.join(crate, "out", "test_calls"), "values", "expansions"], os.path.join(crate, "data")
     ample = run(words, folder=data)
     told = re.fullmatch(rb"expansions: (\d+) rows, 0 wrong\n", ample[1])
     if not told or ample != (0, ample[1], b""):
         print("expansions with ample memory: %r" % (ample,))
         return 1
     refused = re.compile(rb"expansions: line \d+ comes to refused\nexpansions: %s rows, 1 wrong\n" % told[1])
-    wanting = {b"out of memory\n", b"expansions: out of memory\n", b"expansions: a file can't be read\n"}
+    wanting = {b"test_calls: out of memory\n", b"expansions: out of memory\n", b"expansions: a file can't be read\n"}
     in_calls = 0
 
     def judge(got):

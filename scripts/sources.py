@@ -1,4 +1,4 @@
-"""Which files psh is made of, their checksums, and where the toolchain is: what ./build and the scripts share."""
+"""Which files a program is made of, their checksums, and where the toolchain is: what ./build and the scripts share."""
 import hashlib
 import os
 import shutil
@@ -7,7 +7,9 @@ import subprocess
 TOP = os.path.dirname(os.path.dirname(os.path.abspath(__file__)))
 # The parts of a crate that are proved and compiled.
 PARTS = ["src", "specs", "proofs"]
-# Where the programs stand that ./psh runs, each with the checksums of what it was made of.
+# The commands at the top, and the crates of their programs.
+PROGRAMS = {"psh": "psh", "psh-schedules": "psh_schedules", "psh-timeline": "psh_timeline"}
+# Where the programs stand that these commands run, each with the checksums of what it was made of.
 OUT = f"{TOP}/out"
 
 
@@ -22,9 +24,9 @@ def named_crates():
     return lines
 
 
-def crates_below(name):
-    """The crates of this repository that one stands on, and itself, as crates.txt names them."""
-    lines, wanted, found = named_crates(), [name], []
+def crates_below(*names):
+    """The crates of this repository that these stand on, and they themselves, as crates.txt names them."""
+    lines, wanted, found = named_crates(), list(names), []
     while wanted:
         crate = wanted.pop()
         if crate in lines and crate not in found:
@@ -70,6 +72,14 @@ def sums_of(files, top=TOP):
         with open(f"{top}/{file}", "rb") as it:
             lines.append(f"{hashlib.sha256(it.read()).hexdigest()}  {file}\n")
     return "".join(lines)
+
+
+def is_made(name, files, out=OUT):
+    """Whether a program is there that was made of these files as they are."""
+    if not os.path.exists(f"{out}/{name}") or not os.path.exists(f"{out}/{name}.sums"):
+        return False
+    with open(f"{out}/{name}.sums", encoding="utf-8") as it:
+        return sorted(it) == sorted(sums_of(files).splitlines(keepends=True))
 
 
 def put(program, name, sums, out=OUT):

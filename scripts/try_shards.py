@@ -95,7 +95,7 @@ def try_faults(tries):
     try_fault(tries, "a missing shard", 1, "psh-schedules: shard 3 of 4 is missing\n", "merge", files[0], files[1], files[3])
     try_fault(tries, "a shard twice", 1, "psh-schedules: shard.2: line 1: this shard was given before\n", "merge", *files, files[1])
     try_fault(tries, "no file", 2, "usage: psh-schedules merge FILE..\n", "merge")
-    try_fault(tries, "a file that isn't there", 4, "psh-schedules: nowhere: cannot read\n", "merge", "nowhere")
+    try_fault(tries, "a file that isn't there", 4, "psh-schedules: cannot read: nowhere\n", "merge", "nowhere")
     with open(f"{tries.folder}/shard.1", "rb") as file:
         whole = file.read()
     with open(f"{tries.folder}/cut", "wb") as file:
