@@ -163,9 +163,15 @@ def call_each(checks, calls, when, said):
         checks.check(f"{what}: whether it complains", bool(rest), bool(call.complaint))
 
 
+def heed_interrupts():
+    """Has a process heed the interrupt, which what runs in the background of a script ignores (XCU 2.12)."""
+    signal.signal(signal.SIGINT, signal.SIG_DFL)
+
+
 def interrupt(checks, copy, room):
     """Interrupts a first call once it compiles, as from a terminal; nothing stays of what it began."""
     how = {"cwd": copy, "stdin": subprocess.DEVNULL, "stdout": subprocess.DEVNULL, "stderr": subprocess.PIPE, "start_new_session": True}
+    how["preexec_fn"] = heed_interrupts
     called = subprocess.Popen(["./psh-timeline", "--help"], env={**os.environ, "TMPDIR": f"{room}/temporary"}, **how)
     for _ in range(600):
         if os.listdir(f"{room}/temporary") or called.poll() is not None:
